@@ -1,2 +1,3 @@
 pub mod Towers
 pub mod Sames
+pub mod Trues

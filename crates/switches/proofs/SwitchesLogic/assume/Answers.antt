@@ -5,12 +5,13 @@ use Prim.Native.Nat.{ℕ, _<_}
 use native.Mathlib.Omega.{arith}
 use lib.ListN.{length, set}
 use Rattle.std.specs.Of.Vec.{vec-items, vec-len}
+use Rattle.std.proofs.shelf.Tests.{false≢true}
 use Rattle.std.proofs.shelf.Ways.{tells}
 use Rattle.logic.specs.declared.Equation.{Equation}
 use Rattle.logic.proofs.Sames.{same-refl, telling-refl}
 use Rattle.switches.specs.Switches.{switches, switch-telling}
 use Rattle.switches.specs.Places.{Firsts}
-use Rattle.switches.proofs.Lights.{never, no-clash, on-alone}
+use Rattle.switches.proofs.Lights.{no-clash, on-alone}
 use Rattle.switches.proofs.Firsts.{firsts-again, firsts-new}
 use Rattle.switches.proofs.SwitchesLogic.assume.Needs as need
 use Rattle.switches.proofs.SwitchesLogic.assume.Needs.{then-not-is-on, else-not-is-on}
@@ -26,7 +27,7 @@ ghost-self c =
                  [ then-not-is-on w ↦
                      subst (Firsts (es ++ (e ∷ []))) (sym (ap (λ x. x .1 .1 .0) (w .self-is)))
                        (firsts-new es e first (c .len-place .result) (omega (arith, c .args .self .now .standing .ok .0)) (grind (arith, tells)) (grind (arith, tells)) (c .args .self .now .firsts)
-                         (λ f. never (w .if-not-is-on .ensures tt .1 f)))
+                         (λ f. false≢true (w .if-not-is-on .ensures tt .1 f)))
                  | else-not-is-on w ↦
                      subst (Firsts (es ++ (e ∷ []))) (sym (ap (λ x. x .1 .1 .0) (w .self-is)))
                        (firsts-again es e first (c .args .self .now .firsts) (on-alone es e had (w .if-not-is-on .ensures tt .0 refl))) ] in
