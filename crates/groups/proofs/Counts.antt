@@ -47,9 +47,10 @@ up-to m n h = grind arith
 pub tally-grows : (test : ℕ → Bool) (m n : ℕ) → m ≤ n → tally test m ≤ tally test n
 tally-grows test m zero h = omega (arith, ap (tally test) (let z : m ≡ 0 = omega arith in z))
 tally-grows test m (suc n) h =
-    elim (up-to m n h)
-    [ inl less ↦ omega (arith, tally-grows test m n less, step-grows (test n) (tally test n))
-    | inr same ↦ omega (arith, ap (tally test) same) ]
+    elim (up-to m n h) [
+      | inl less ↦ omega (arith, tally-grows test m n less, step-grows (test n) (tally test n))
+      | inr same ↦ omega (arith, ap (tally test) same)
+    ]
 
 pub tally-passes : (test : ℕ → Bool) (m n : ℕ) → test m ≡ true → m < n → tally test m < tally test n
 tally-passes test m n passes h =

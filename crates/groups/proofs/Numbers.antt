@@ -10,10 +10,11 @@ use Rattle.groups.proofs.Counts.{count-single}
 pub lowest-single : (In : ℕ → Type 0) (Joined : ℕ → ℕ → Type 0) (m n : ℕ) → Lowest In Joined m → Lowest In Joined n
     → Joined m n → Joined n m → m ≡ n
 lowest-single In Joined m n x y there back =
-    elim (cases-order m n)
-    [ inl same ↦ same
-    | inr (inl less) ↦ absurd (y .lowest m less (x .member) there)
-    | inr (inr more) ↦ absurd (x .lowest n more (y .member) back) ]
+    elim (cases-order m n) [
+      | inl same ↦ same
+      | inr (inl less) ↦ absurd (y .lowest m less (x .member) there)
+      | inr (inr more) ↦ absurd (x .lowest n more (y .member) back)
+    ]
 
 -- a number's group has one number, where being joined can be turned round and carried on
 pub group-single : (In : ℕ → Type 0) (Joined : ℕ → ℕ → Type 0)

@@ -32,15 +32,16 @@ module _ (N : ℕ) (Joined : ℕ → ℕ → Type 0) (ls : List ℕ) (table : Ta
       record {
         member = h;
         lowest = λ k less small j.
-          let same : getD ls k 0 ≡ m = table .agree k m small h .0 j ∙ eqb-true (getD ls m 0) m l in
-          omega (arith, table .low k small);
+            let same : getD ls k 0 ≡ m = table .agree k m small h .0 j ∙ eqb-true (getD ls m 0) m l in
+            omega (arith, table .low k small);
       }
 
   lowest-leads : (m : ℕ) → Lowest (λ k. k < N) Joined m → leads ls m ≡ true
   lowest-leads m x =
-      elim (under (getD ls m 0) m (table .low m (x .member)))
-      [ inl less ↦ absurd (x .lowest (getD ls m 0) less (entry-below m (x .member)) (entry-joined m (x .member)))
-      | inr same ↦ eq-eqb (getD ls m 0) m same ]
+      elim (under (getD ls m 0) m (table .low m (x .member))) [
+        | inl less ↦ absurd (x .lowest (getD ls m 0) less (entry-below m (x .member)) (entry-joined m (x .member)))
+        | inr same ↦ eq-eqb (getD ls m 0) m same
+      ]
 
   -- each number below N is in the group of its number by the table
   pub group-numbered : (n : ℕ) → n < N → GroupNumber (λ k. k < N) Joined n (group-of ls n)
@@ -51,14 +52,15 @@ module _ (N : ℕ) (Joined : ℕ → ℕ → Type 0) (ls : List ℕ) (table : Ta
         joined = entry-joined n h;
         before = tally (leads ls) (getD ls n 0);
         counted = tally-counts (Lowest (λ k. k < N) Joined) (leads ls) (getD ls n 0)
-          (λ k less. (leads-lowest k (omega (arith, entry-below n h)), lowest-leads k));
+            (λ k less. (leads-lowest k (omega (arith, entry-below n h)), lowest-leads k));
         number = refl;
       }
 
   -- joined numbers have one group number, and others have two
   pub group-agrees : (i j : ℕ) → i < N → j < N → group-of ls i ≡ group-of ls j → getD ls i 0 ≡ getD ls j 0
   group-agrees i j h k same =
-      elim (cases-order (getD ls i 0) (getD ls j 0))
-      [ inl e ↦ e
-      | inr (inl less) ↦ absurd (omega (arith, tally-passes (leads ls) (getD ls i 0) (getD ls j 0) (entry-leads i h) less))
-      | inr (inr more) ↦ absurd (omega (arith, tally-passes (leads ls) (getD ls j 0) (getD ls i 0) (entry-leads j k) more)) ]
+      elim (cases-order (getD ls i 0) (getD ls j 0)) [
+        | inl e ↦ e
+        | inr (inl less) ↦ absurd (omega (arith, tally-passes (leads ls) (getD ls i 0) (getD ls j 0) (entry-leads i h) less))
+        | inr (inr more) ↦ absurd (omega (arith, tally-passes (leads ls) (getD ls j 0) (getD ls i 0) (entry-leads j k) more))
+      ]

@@ -26,3 +26,7 @@ module _ (t : Theory) (w : World) where
   pub all-newest : (es : List Equation) (e : Equation) → AllTrue t w (es ++ (e ∷ [])) → t .holds w e
   all-newest [] e all = all .0
   all-newest (x ∷ es) e all = all-newest es e (all .1)
+
+  pub all-push : (es : List Equation) (e : Equation) → AllTrue t w es → t .holds w e → AllTrue t w (es ++ (e ∷ []))
+  all-push [] e all h = (h, tt)
+  all-push (x ∷ es) e all h = (all .0, all-push es e (all .1) h)

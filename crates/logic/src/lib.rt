@@ -14,6 +14,9 @@ ghost use Rattle.logic.specs.Refusals.{refusal-number};
 ghost use Rattle.logic.specs.Tellings.{Told, Telling, Names, silent, kind-number, answer-of};
 ghost use Rattle.logic.specs.Answers.{Keeps, Assumes, outcome-of};
 
+// How many equations may stand in a logic.
+pub const ROOM: usize = 256;
+
 // A pair of numbers, left and right. What it says is the logic's affair.
 #[derive(Clone, Copy, PartialEq, Eq, Debug)]
 pub struct Equation {

@@ -1,3 +1,3 @@
-pub mod Lights
+pub mod Forcing
 pub mod Firsts
 pub mod Tells

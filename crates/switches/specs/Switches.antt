@@ -22,12 +22,15 @@ switches = record {
   holds = λ w e. w .tree (e .left) ≡ base;
 }
 
+-- The height told of switch n where es stand: 0 where it is on, and 1 where it is off.
+abbrev pub Height : List Equation → ℕ → ℕ → Type 0
+Height es n height = (Forced switches es (switched n) → height ≡ 0) × ((Forced switches es (switched n) → ⊥) → height ≡ 1)
+
 -- What is told of the number n where es stand: the tower of height 0 for a switch that is on (forced), the tower of
 -- height 1 for one that is off, and refusal 17 for a number that is no switch.
-pub data SwitchTold (es : List Equation) (n : ℕ) : Told → Type 0 where
-  lit : n < 256 → Forced switches es (switched n) → SwitchTold es n (told 0 0)
-  dark : n < 256 → (Forced switches es (switched n) → ⊥) → SwitchTold es n (told 0 1)
-  beyond : 256 ≤ n → SwitchTold es n (refused 17)
+abbrev pub SwitchTold : List Equation → ℕ → Told → Type 0
+SwitchTold es n (told kind height) = (n < 256) × (kind ≡ 0) × Height es n height
+SwitchTold es n (refused number) = (256 ≤ n) × (number ≡ 17)
 
 -- The place of a switch is its number.
 abbrev pub switch-telling : Telling
@@ -39,5 +42,5 @@ stands-on [] s = false
 stands-on (e ∷ es) s = eqb (e .left) s || stands-on es s
 
 -- The told world: a switch of which an equation stands is base, and any other number one step over base.
-abbrev pub lights : List Equation → World
-lights es = towers (λ s. cond (stands-on es s) 0 1)
+abbrev pub told-by : List Equation → World
+told-by es = towers (λ s. cond (stands-on es s) 0 1)

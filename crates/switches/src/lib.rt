@@ -1,58 +1,39 @@
-// The logic of 256 switches: the equation (s, 0) says that switch s is on.
+// The logic of 256 switches: the equation (s, 0) says that switch s is on. `Lights` has the standing equations, with a table
+// that finds a switch among them at once.
 
 ghost use mathlib.Core.Path.{_≡_};
 ghost use mathlib.Core.List.{[]};
-ghost use Prim.Native.Nat.{_<_, _≤_};
 ghost use Rattle.std.specs.Vec.{made};
-ghost use Rattle.std.specs.Orderings.{Decides};
-ghost use Rattle.std.specs.Of.Vec.{vec-len, vec-cap, vec-items};
-ghost use Rattle.logic.specs.Theories.{Forced};
-ghost use Rattle.switches.specs.Switches.{switches, switched, switch-telling, lights};
-ghost use Rattle.switches.specs.Places.{Firsts};
+ghost use Rattle.std.specs.Of.Vec.{vec-items};
+ghost use Rattle.switches.specs.Switches.{switches, switch-telling, told-by};
+use lights::Lights;
+use lights::SWITCHES;
 use logic::Assumed;
 use logic::Equation;
 use logic::Kind;
 use logic::Logic;
+use logic::ROOM;
 use logic::Refusal;
 use logic::TellingLogic;
 use std::alloc::AllocError;
 use std::alloc::Global;
 
-// How many switches there are, and how many equations may stand.
-const SWITCHES: u16 = 256;
-const ROOM: usize = 256;
+mod lights;
+#[cfg(test)]
+mod tests;
 
 #[derive(Drop)]
 pub struct Switches {
-    // The standing equations, oldest first.
-    standing: Vec<Equation>,
-    // Where a switch stands first, if it stands. So `back` need not touch it: an entry counts only where it points at
-    // a standing equation of its own switch.
-    first: [u8; 256],
-    ghost room: { 256 ≤ vec-cap standing },
-    ghost few: { vec-len standing ≤ 256 },
-    ghost firsts: { Firsts (vec-items standing) first },
+    lights: Lights,
 }
 
 impl Switches {
     // Switches of which none is on.
     pub fn new(heap: Global) -> Result<Switches, AllocError>
-        ensures { λ r. ⌜ made r (λ s. vec-items (s .standing) ≡ []) ⌝ }
+        ensures { λ r. ⌜ made r (λ s. vec-items (s .lights .standing) ≡ []) ⌝ }
     {
-        let standing = Vec::with_capacity(heap, ROOM)?;
-        Ok(Switches {
-            standing,
-            first: [0; 256],
-        })
-    }
-
-    // Whether an equation of this switch stands.
-    fn is_on(&self, switch: u16) -> bool
-        requires { ⌜ switch < 256 ⌝ }
-        ensures { λ r. ⌜ Decides r (Forced switches (vec-items (now (self .entry) .standing)) (switched switch)) ⌝ }
-    {
-        let place = self.first[switch as usize] as usize;
-        place < self.standing.len() && self.standing[place].left == switch
+        let lights = Lights::new(heap)?;
+        Ok(Switches { lights })
     }
 }
 
@@ -61,7 +42,7 @@ pub impl Logic for Switches as SwitchesLogic {
 
     ghost telling = { λ _. switch-telling };
 
-    ghost stands = { λ s. vec-items (s .standing) };
+    ghost stands = { λ s. vec-items (s .lights .standing) };
 
     ghost lawful = { λ _. Unit {0} };
 
@@ -70,41 +51,40 @@ pub impl Logic for Switches as SwitchesLogic {
     }
 
     fn forced(&self, e: Equation) -> bool {
-        self.has(e) && self.is_on(e.left)
+        self.has(e) && self.lights.is_on(e.left)
     }
 
     fn standing(&self) -> usize {
-        self.standing.len()
+        self.lights.len()
     }
 
     fn assume(&mut self, e: Equation) -> Result<Assumed, Refusal> {
         if !self.has(e) {
             return Err(Refusal::Foreign);
         }
-        let place = self.standing.len();
-        if place == ROOM {
+        if self.standing() == ROOM {
             return Err(Refusal::Full);
         }
-        if !self.is_on(e.left) {
-            self.first[e.left as usize] = place as u8;
-        }
-        self.standing.push_reserved(e);
+        self.lights.push(e);
         Ok(Assumed::Taken)
     }
 
     fn back(&mut self, n: usize) {
-        self.standing.truncate(n);
+        self.lights.truncate(n);
     }
 }
 
 pub impl TellingLogic for Switches as SwitchesTelling {
-    ghost told = { λ s. lights (vec-items (s .standing)) };
+    ghost told = { λ s. told-by (vec-items (s .lights .standing)) };
 
     fn tell(&self, number: u16) -> Result<(Kind, u32), Refusal> {
         if number >= SWITCHES {
             return Err(Refusal::Untold);
         }
-        let height = if self.is_on(number) { 0 } else { 1 };
-        Ok((Kind::Tower, height))
+        if self.lights.is_on(number) {
+            Ok((Kind::Tower, 0))
+        } else {
+            Ok((Kind::Tower, 1))
+        }
     }
 }

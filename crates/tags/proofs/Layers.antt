@@ -57,13 +57,14 @@ layers-push es ps e p long x layers k h =
     let lows : Partition → List ℕ = λ q. q .lowest in
     let grown : getD (tables (ps ++ (p ∷ []))) k [] ≡ getD (tables ps ++ (p .lowest ∷ [])) k [] = ap (λ (ts : List (List ℕ)). getD ts k []) (map-append lows ps (p ∷ [])) in
     let many : length (tables ps) ≡ length es + 1 = length-map ps lows ∙ long in
-    elim (up-to es e k h)
-    [ inl old ↦
-        subst₂ (λ (fs : List Equation) (ls : List ℕ). Exact fs ls) (sym (take-append-le k es (e ∷ []) old))
+    elim (up-to es e k h) [
+      | inl old ↦
+          subst₂ (λ (fs : List Equation) (ls : List ℕ). Exact fs ls) (sym (take-append-le k es (e ∷ []) old))
           (sym (grown ∙ getD-append-left (tables ps) (p .lowest ∷ []) [] k (omega arith))) (layers k old)
-    | inr new ↦
-        subst₂ (λ (fs : List Equation) (ls : List ℕ). Exact fs ls) (sym (take-all k (es ++ (e ∷ [])) (omega (arith, length-append es (e ∷ [])))))
-          (sym (grown ∙ getD-push (tables ps) (p .lowest) [] k (omega arith))) x ]
+      | inr new ↦
+          subst₂ (λ (fs : List Equation) (ls : List ℕ). Exact fs ls) (sym (take-all k (es ++ (e ∷ [])) (omega (arith, length-append es (e ∷ [])))))
+          (sym (grown ∙ getD-push (tables ps) (p .lowest) [] k (omega arith))) x
+    ]
 
 -- the partition that joins both sides of the equation is the one to go with it
 pub layers-taken : (es : List Equation) (ps : List Partition) (e : Equation) (ls : List ℕ) (p : Partition) → length ps ≡ length es + 1
@@ -72,7 +73,7 @@ pub layers-taken : (es : List Equation) (ps : List Partition) (e : Equation) (ls
 layers-taken es ps e ls p long wide read joined left right layers =
     let here : ∥ Exact es ls ∥₁ = subst (λ (x : List ℕ). ∥ Exact es x ∥₁) (sym read) (newest-exact es ps layers) in
     ∥∥₁-elim here ∥∥₁-prop (λ x. ∥∥₁-map layers
-      (layers-push es ps e p long (subst (λ (y : List ℕ). Exact (es ++ (e ∷ [])) y) (sym joined) (exact-joined es ls e wide left right x))))
+    (layers-push es ps e p long (subst (λ (y : List ℕ). Exact (es ++ (e ∷ [])) y) (sym joined) (exact-joined es ls e wide left right x))))
 
 tables-take : (n : ℕ) (ps : List Partition) → tables (take n ps) ≡ take n (tables ps)
 tables-take zero ps = refl
@@ -85,4 +86,4 @@ layers-back es ps n m long layers k h =
     let small : k ≤ n = omega (arith, length-take n es) in
     let within : k ≤ length es = omega (arith, length-take n es) in
     subst₂ (λ (fs : List Equation) (ls : List ℕ). Exact fs ls) (sym (take-take k n es small))
-      (sym (ap (λ (ts : List (List ℕ)). getD ts k []) (tables-take m ps) ∙ getD-take m (tables ps) k [] (omega arith))) (layers k within)
+    (sym (ap (λ (ts : List (List ℕ)). getD ts k []) (tables-take m ps) ∙ getD-take m (tables ps) k [] (omega arith))) (layers k within)

@@ -33,9 +33,9 @@ ForcedEqual es a b = Forced tags es (agree a b)
 
 -- What is told of the number n where es stand: of a tag in the i-th group of forced-equal tags, counted from 1 by lowest
 -- member, the tower of height i; and refusal 17 for a number that is no tag.
-pub data TagTold (es : List Equation) (n : ℕ) : Told → Type 0 where
-  grouped : {i : ℕ} → Tag n → GroupNumber Tag (ForcedEqual es) n i → TagTold es n (told 0 i)
-  beyond : 1024 ≤ n → TagTold es n (refused 17)
+abbrev pub TagTold : List Equation → ℕ → Told → Type 0
+TagTold es n (told kind i) = Tag n × (kind ≡ 0) × GroupNumber Tag (ForcedEqual es) n i
+TagTold es n (refused number) = (1024 ≤ n) × (number ≡ 17)
 
 -- The place of a tag is its number.
 abbrev pub tag-telling : Telling

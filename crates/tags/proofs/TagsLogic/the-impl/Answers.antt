@@ -8,7 +8,8 @@ use Rattle.tags.proofs.TagsLogic.the-impl.Needs as need
 
 pub freest-law : need.freest-law
 freest-law s good =
-    let es = vec-items (s .standing) in
-    let ps = vec-items (s .partitions) in
-    (told-by (newest es ps),
-     tag-freest es (newest es ps) (newest-table es ps (omega (arith, s .«one_more», s .standing .ok .0, s .partitions .ok .0)) (s .layers)) (newest-exact es ps (s .layers)))
+    let es = vec-items (s .history .standing) in
+    let ps = vec-items (s .history .partitions) in (
+      told-by (newest es ps),
+      tag-freest es (newest es ps) (newest-table es ps (omega (arith, s .history .«one_more», s .history .standing .ok .0, s .history .partitions .ok .0)) (s .history .layers)) (newest-exact es ps (s .history .layers)),
+    )

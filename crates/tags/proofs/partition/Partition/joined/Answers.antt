@@ -16,6 +16,6 @@ returns c =
     let renamed : ℕ → ℕ = λ x. cond (eqb x high) low x in
     let long : length ls ≡ 1024 = omega arith in
     ext-getD 0 (c .loop-x .x-items) (map renamed ls) (c .loop-x-test .array-long ∙ sym long ∙ sym (length-map ls renamed))
-      (λ k h. c .loop-x .inv .0 k (omega arith)
-        ∙ ap₂ (λ (x y : ℕ). cond (eqb (getD ls k 0) x) y (getD ls k 0)) (c .max-high .ensures) (c .min-low .ensures)
-        ∙ sym (getD-map renamed ls k 0 0 (omega arith)))
+    (λ k h. c .loop-x .inv .0 k (omega arith)
+    ∙ ap₂ (λ (x y : ℕ). cond (eqb (getD ls k 0) x) y (getD ls k 0)) (c .max-high .ensures) (c .min-low .ensures)
+    ∙ sym (getD-map renamed ls k 0 0 (omega arith)))

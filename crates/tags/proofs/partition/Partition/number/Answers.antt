@@ -12,10 +12,11 @@ pub loop-other-again : need.loop-other-again
 loop-other-again c =
     let ls = c .args .self .now .lowest in
     let k = c .loop-other .other in
-    elim (c .if-self-other .came)
-    [ then-self-other w ↦
-        let more = tally-yes (leads ls) k (eq-eqb (getD ls k 0) k (w .if-self-other .taken)) in
-        (omega (arith, w .number-is, more, c .loop-other .inv .0), omega (arith, w .number-is, c .loop-other .inv .1))
-    | else-self-other w ↦
-        let same = tally-no (leads ls) k (ne-eqb (getD ls k 0) k (w .if-self-other .left)) in
-        (omega (arith, w .number-is, same, c .loop-other .inv .0), omega (arith, w .number-is, c .loop-other .inv .1)) ]
+    elim (c .if-self-other .came) [
+      | then-self-other w ↦
+          let more = tally-yes (leads ls) k (eq-eqb (getD ls k 0) k (w .if-self-other .taken)) in
+          (omega (arith, w .number-is, more, c .loop-other .inv .0), omega (arith, w .number-is, c .loop-other .inv .1))
+      | else-self-other w ↦
+          let same = tally-no (leads ls) k (ne-eqb (getD ls k 0) k (w .if-self-other .left)) in
+          (omega (arith, w .number-is, same, c .loop-other .inv .0), omega (arith, w .number-is, c .loop-other .inv .1))
+    ]
