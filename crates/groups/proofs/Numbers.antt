@@ -1,7 +1,7 @@
 -- A number is in one group. Assumes nothing.
-use mathlib.Core.Path.{_≡_, refl, sym, ap, subst, _∙_}
+use mathlib.Core.Path.{_≡_, sym, ap, subst, _∙_}
 use mathlib.Core.Logic.{inl, inr}
-use Prim.Native.Nat.{ℕ, suc, _<_}
+use Prim.Native.Nat.{ℕ, suc}
 use Rattle.std.proofs.shelf.Tests.{cases-order}
 use Rattle.groups.specs.Groups.{Lowest, Count, GroupNumber}
 use Rattle.groups.proofs.Counts.{count-single}

@@ -1,15 +1,14 @@
 -- A table that has, for each number below N, the lowest member of its group; what it says of groups and their numbers.
 -- Assumes nothing.
-use mathlib.Core.Path.{_≡_, refl, sym, ap, _∙_}
-use mathlib.Core.Bool.{Bool, true, false}
+use mathlib.Core.Path.{_≡_, refl, _∙_}
+use mathlib.Core.Bool.{true}
 use mathlib.Core.List.{List}
 use mathlib.Core.Logic.{_⊎_, inl, inr}
-use Prim.Native.Nat.{ℕ, suc, _<_, _≤_}
+use Prim.Native.Nat.{ℕ, _<_, _≤_}
 use native.Mathlib.Omega.{arith}
-use lib.Dec.{eqb}
 use lib.ListN.{getD}
 use Rattle.std.proofs.shelf.Tests.{eq-eqb, eqb-true, cases-order}
-use Rattle.groups.specs.Groups.{Lowest, Count, GroupNumber}
+use Rattle.groups.specs.Groups.{Lowest, GroupNumber}
 use Rattle.groups.specs.Tables.{Table, leads, tally, group-of}
 use Rattle.groups.proofs.Counts.{tally-counts, tally-passes}
 

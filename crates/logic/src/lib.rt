@@ -11,6 +11,7 @@ ghost use Rattle.logic.specs.declared.Equation.{Equation};
 ghost use Rattle.logic.specs.Trees.{World};
 ghost use Rattle.logic.specs.Theories.{Theory, Forced, Freest, FreestAt};
 ghost use Rattle.logic.specs.Refusals.{refusal-number};
+ghost use Rattle.logic.specs.Tellings.Told.{refused};
 ghost use Rattle.logic.specs.Tellings.{Told, Telling, Names, silent, kind-number, answer-of};
 ghost use Rattle.logic.specs.Answers.{Keeps, Assumes, outcome-of};
 
@@ -135,6 +136,9 @@ pub trait TellingLogic: Logic {
 
     // Of a number one thing is told.
     law single: { (s : Self) (n : ℕ) (a b : Told) → lawful s → telling s .answer (stands s) n a → telling s .answer (stands s) n b → a ≡ b };
+
+    // The one refusal is 17.
+    law refusal: { (s : Self) (n k : ℕ) → lawful s → telling s .answer (stands s) n (refused k) → k ≡ 17 };
 
     // What the told world gives to the number's place: a kind and a number.
     fn tell(&self, number: u16) -> Result<(Kind, u32), Refusal>

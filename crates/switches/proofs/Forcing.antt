@@ -1,16 +1,16 @@
 -- A switch is forced exactly when an equation of it stands, and the world that told-by just those is a freest world.
 -- Assumes nothing.
 use mathlib.Core.Path.{_≡_, refl, sym, ap, subst, _∙_}
-use mathlib.Core.Bool.{Bool, true, false, _||_, cond}
+use mathlib.Core.Bool.{Bool, true, false, cond}
 use mathlib.Core.List.{List, [], _∷_}
-use mathlib.Core.Logic.{_⊎_, inl, inr}
+use mathlib.Core.Logic.{inl, inr}
 use Prim.Native.Nat.{ℕ, zero, suc, _<_, _≤_}
 use native.Mathlib.Omega.{arith}
-use lib.Dec.{eqb, ltb}
+use lib.Dec.{eqb}
 use lib.ListN.{length, getD}
 use Rattle.std.proofs.shelf.Tests.{eq-eqb, eqb-true, false≢true, or-cases, or-left, or-right}
 use Rattle.std.proofs.shelf.Ways.{tells}
-use Rattle.logic.specs.Trees.{World, base, tower, towers}
+use Rattle.logic.specs.Trees.{base, tower, towers}
 use Rattle.logic.specs.Theories.{AllTrue, Forced, Clash, FreestAt}
 use Rattle.logic.specs.declared.Equation.{Equation}
 use Rattle.logic.proofs.Towers.{tower-same}

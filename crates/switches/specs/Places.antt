@@ -1,11 +1,10 @@
 -- Where each switch stands first. Assumes nothing.
 use mathlib.Core.Path.{_≡_}
-use mathlib.Core.Bool.{true}
-use mathlib.Core.List.{List, [], _∷_}
+use mathlib.Core.List.{List}
 use Prim.Native.Nat.{ℕ, _<_, _≤_}
 use lib.ListN.{length, getD}
 use Rattle.logic.specs.declared.Equation.{Equation}
-use Rattle.switches.specs.Switches.{switched, switches}
+use Rattle.switches.specs.Switches.{switched}
 
 -- The switch that the k-th standing equation speaks of.
 abbrev pub switch-at : List Equation → ℕ → ℕ

@@ -1,10 +1,10 @@
 -- What a table of lowest members says of the equations that it is made from. Assumes nothing.
-use mathlib.Core.Path.{_≡_, refl, sym, ap, subst, _∙_}
-use mathlib.Core.Bool.{Bool, true, false, cond}
+use mathlib.Core.Path.{_≡_, sym, ap, subst, _∙_}
+use mathlib.Core.Bool.{cond}
 use mathlib.Core.HLevel.{hedberg}
-use mathlib.Core.List.{List, [], _∷_, _++_, map}
+use mathlib.Core.List.{List, [], _∷_, _++_}
 use mathlib.Core.Logic.{_⊎_, inl, inr, ∥∥₁-elim}
-use Prim.Native.Nat.{ℕ, _+_, _<_, _≤_, min, max}
+use Prim.Native.Nat.{ℕ, _<_, min, max}
 use native.Mathlib.Decide.{ℕ-discrete}
 use native.Mathlib.Omega.{arith}
 use lib.Dec.{eqb}
@@ -13,7 +13,7 @@ use Rattle.std.proofs.shelf.Lists.{getD-append-left, getD-push, getD-map}
 use Rattle.std.proofs.shelf.Tests.{eq-eqb, ne-eqb, cases-eq, cases-lt, cond-true, cond-false}
 use Rattle.std.proofs.shelf.Ways.{tells}
 use Rattle.logic.specs.Trees.{World, Tree, tower, towers}
-use Rattle.logic.specs.Theories.{AllTrue, Forced, Clash}
+use Rattle.logic.specs.Theories.{AllTrue}
 use Rattle.logic.specs.declared.Equation.{Equation}
 use Rattle.logic.proofs.Towers.{tower-same, tree-set}
 use Rattle.logic.proofs.Trues.{all-each, all-older, all-newest}

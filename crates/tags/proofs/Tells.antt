@@ -1,6 +1,6 @@
 -- What is told of a tag is one thing, and it is what the told world has there. Assumes nothing.
 use mathlib.Core.Path.{_≡_, refl, sym, ap, ap₂, _∙_}
-use mathlib.Core.Bool.{true, _&&_}
+use mathlib.Core.Bool.{true}
 use mathlib.Core.List.{List}
 use mathlib.Core.Logic.{∥∥₁-elim}
 use Prim.Native.Nat.{ℕ, zero, suc, _<_}
@@ -9,7 +9,7 @@ use lib.Dec.{ltb}
 use lib.ListN.{getD}
 use Rattle.std.proofs.shelf.Tests.{and-parts, and-from, ltb-true}
 use Rattle.logic.specs.Trees.{tower, towers}
-use Rattle.logic.specs.Theories.{AllTrue, Clash, FreestAt}
+use Rattle.logic.specs.Theories.{Clash, FreestAt}
 use Rattle.logic.specs.Tellings.{Told, Names}
 use Rattle.logic.specs.Tellings.Told.{told, refused}
 use Rattle.logic.specs.declared.Equation.{Equation}

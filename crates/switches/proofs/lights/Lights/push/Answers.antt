@@ -1,15 +1,12 @@
-use mathlib.Core.Path.{_≡_, refl, sym, ap, subst, _∙_}
+use mathlib.Core.Path.{_≡_, refl, sym, ap, subst}
 use mathlib.Core.Bool.{true}
 use mathlib.Core.List.{List, [], _∷_, _++_}
-use Prim.Native.Nat.{ℕ, _<_}
 use native.Mathlib.Omega.{arith}
-use lib.ListN.{length, set}
-use Rattle.std.specs.Of.Vec.{vec-items, vec-len}
+use Rattle.std.specs.Of.Vec.{vec-items}
 use Rattle.std.proofs.shelf.Tests.{false≢true}
 use Rattle.std.proofs.shelf.Ways.{tells}
 use Rattle.logic.specs.declared.Equation.{Equation}
-use Rattle.logic.proofs.Sames.{same-refl, telling-refl}
-use Rattle.switches.specs.Switches.{switches, switch-telling}
+use Rattle.switches.specs.Switches.{switches}
 use Rattle.switches.specs.Places.{Firsts}
 use Rattle.switches.proofs.Forcing.{no-clash, on-alone}
 use Rattle.switches.proofs.Firsts.{firsts-again, firsts-new}

@@ -1,10 +1,8 @@
 use mathlib.Core.Path.{_≡_, ap, _∙_}
 use mathlib.Core.List.{List, [], _∷_, _++_}
-use Prim.Native.Nat.{ℕ}
 use native.Mathlib.Omega.{arith}
 use lib.ListN.{length}
 use Rattle.std.specs.Of.Vec.{vec-items, vec-len}
-use Rattle.logic.specs.declared.Equation.{Equation}
 use Rattle.tags.specs.declared.partition.Partition.{Partition}
 use Rattle.tags.proofs.Partitions.{exact-apart}
 use Rattle.tags.proofs.Layers.{layers-first}

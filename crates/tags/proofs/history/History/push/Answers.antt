@@ -1,13 +1,10 @@
-use mathlib.Core.Path.{_≡_, sym, subst₂, _∙_}
-use mathlib.Core.Bool.{true}
-use mathlib.Core.List.{List, [], _∷_, _++_}
+use mathlib.Core.Path.{_≡_, sym, subst₂}
+use mathlib.Core.List.{List}
 use Prim.Native.Nat.{_+_}
 use native.Mathlib.Omega.{arith}
 use lib.ListN.{length}
-use Rattle.std.specs.Of.Vec.{vec-items, vec-len}
+use Rattle.std.specs.Of.Vec.{vec-items}
 use Rattle.logic.specs.declared.Equation.{Equation}
-use Rattle.logic.proofs.Sames.{same-refl, telling-refl}
-use Rattle.tags.specs.Tags.{tags, tag-telling}
 use Rattle.tags.specs.Layers.{Layers}
 use Rattle.tags.specs.declared.partition.Partition.{Partition}
 use Rattle.tags.proofs.Layers.{layers-taken}

@@ -1,10 +1,10 @@
-use mathlib.Core.Path.{_≡_, sym, ap, subst₂, _∙_}
+use mathlib.Core.Path.{_≡_, sym, ap, subst₂}
 use mathlib.Core.List.{List}
 use mathlib.Core.Logic.{∥∥₁-map}
 use Prim.Native.Nat.{_+_}
 use native.Mathlib.Omega.{arith}
 use lib.ListN.{length, take}
-use Rattle.std.specs.Of.Vec.{vec-items, vec-len}
+use Rattle.std.specs.Of.Vec.{vec-items}
 use Rattle.logic.specs.declared.Equation.{Equation}
 use Rattle.tags.specs.Layers.{Layers}
 use Rattle.tags.specs.declared.partition.Partition.{Partition}

@@ -1,0 +1,4 @@
+pub mod Literals
+pub mod Bests
+pub mod Trials
+pub mod Asks
