@@ -4,6 +4,8 @@
 // The tags: 0 the zone on the ticket, 1 the zone of the gate, 2 the zone of the depot, 3 the class on the ticket, 4 the
 // class of staff.
 
+#![tactic(auto)]
+
 use logic::{Equation, Kind, TellingLogic};
 use rules::Literal;
 use session::{Call, Reply, Session, play};

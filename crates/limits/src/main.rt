@@ -1,5 +1,7 @@
 // Both sides of each limit of a session over switches, run and printed.
 
+#![tactic(auto)]
+
 use logic::{Equation, TellingLogic};
 use rules::Literal;
 use session::{Refusal, Session};

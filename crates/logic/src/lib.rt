@@ -2,6 +2,8 @@
 // the equations that stand. The trait `Logic` is the interface that the search is written over; `TellingLogic` adds
 // an example that can be told. The definitions that the contracts cite are in specs/.
 
+#![tactic(auto)]
+
 ghost use Rattle.std.specs.Prelude.{◌≡◌, ℕ, ◌≤◌, List, length, take, Decides};
 ghost use Rattle.logic.specs.declared.Equation.{Equation};
 ghost use Rattle.logic.specs.Trees.{World};
@@ -126,17 +128,17 @@ pub trait TellingLogic: Logic {
 
     // What the told world gives to the number's place: a kind and a number.
     fn tell(&self, number: u16) -> Result<(Kind, u32), Refusal>
-        ensures { lawful self.now → (telling self.now).answer (stands self.now) number (answer_of result) };
+        ensures { Self.lawful self.now → (Self.telling self.now).answer (Self.stands self.now) number (answer_of result) };
 
     // The told world is a freest world.
-    ghost free: { (s : Self) → lawful s → FreestAt (theory s) (stands s) (told s) };
+    ghost free: { (s : Self) → Self.lawful s → FreestAt (Self.theory s) (Self.stands s) (told s) };
 
     // What is told of a number names the tree that the told world gives to the number's place.
-    ghost named: { (s : Self) (n : ℕ) (a : Told) → lawful s → (telling s).answer (stands s) n a → Names (telling s) (told s) a ((told s).tree ((telling s).place n)) };
+    ghost named: { (s : Self) (n : ℕ) (a : Told) → Self.lawful s → (Self.telling s).answer (Self.stands s) n a → Names (Self.telling s) (told s) a ((told s).tree ((Self.telling s).place n)) };
 
     // Of a number one thing is told.
-    ghost single: { (s : Self) (n : ℕ) (a b : Told) → lawful s → (telling s).answer (stands s) n a → (telling s).answer (stands s) n b → a ≡ b };
+    ghost single: { (s : Self) (n : ℕ) (a b : Told) → Self.lawful s → (Self.telling s).answer (Self.stands s) n a → (Self.telling s).answer (Self.stands s) n b → a ≡ b };
 
     // The one refusal is 17.
-    ghost refusal: { (s : Self) (n k : ℕ) → lawful s → (telling s).answer (stands s) n (refused k) → k ≡ 17 };
+    ghost refusal: { (s : Self) (n k : ℕ) → Self.lawful s → (Self.telling s).answer (Self.stands s) n (refused k) → k ≡ 17 };
 }

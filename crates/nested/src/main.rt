@@ -1,6 +1,8 @@
 // Guards over nested messages: each case writes a sheet of terms, closes it, and asks a session over trees and switches which
 // rules can hold together. The even numbers of the pair are terms, and the odd ones are switches.
 
+#![tactic(auto)]
+
 use anyhow::anyhow;
 use logic::{Equation, Kind, TellingLogic};
 use pair::Pair;

@@ -2,6 +2,8 @@
 // numbers halved, and one between odd numbers is one of the second. `Both` has the two logics, `Turns` the equations that stand
 // in them in the order in which they were taken, and `numbers` says which side is whose.
 
+#![tactic(auto)]
+
 ghost use Rattle.std.specs.Prelude.{IfOk};
 ghost use Rattle.sides.specs.Sides.{joined};
 ghost use Rattle.sides.specs.Pairs.{paired};

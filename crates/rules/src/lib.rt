@@ -1,6 +1,8 @@
 // Rules and the walk of an ask. The walk is a relation (specs/Walks.antt) over any theory; what its end says of the worlds
 // and of the trials, that it ends in one way, and how budgets relate is proved here once (specs/Laws.antt).
 
+#![tactic(auto)]
+
 ghost use Rattle.std.specs.Prelude.{◌≡◌};
 ghost use Rattle.rules.specs.Rules.{equation_of};
 

@@ -1,5 +1,5 @@
 -- An ask after a run that led to a session. Assumes nothing.
-use Rattle.std.proofs.Common.{◌≡◌, ℕ, Bool, true, false, List, [], ◌∷◌, ◌++◌, None, sym, refl, subst, arith}
+use Rattle.std.proofs.Common.{◌≡◌, ℕ, Bool, true, false, List, [], ◌∷◌, ◌++◌, sym, refl, subst, arith}
 use Rattle.logic.specs.Theories.{Theory, Same, Freest}
 use Rattle.logic.specs.declared.Equation.{Equation}
 use Rattle.logic.proofs.Sames.{same_trans}

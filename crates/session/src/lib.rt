@@ -1,9 +1,11 @@
 // Sessions: rules posted in scopes, asks, and the choices of the shown answer, over any logic. `calls` has the calls with
 // their contracts; `play` makes a whole list of calls, and its contract is the law over runs.
 
+#![tactic(auto)]
+
 ghost use Rattle.std.specs.Prelude.{◌≤◌, vec_len, vec_capacity};
 
-use logic::{Equation, Logic};
+use logic::Equation;
 use rules::Literal;
 use walk::{Rule, Word};
 
@@ -62,7 +64,7 @@ pub enum Reply {
 
 // A session has taken its logic over for good.
 #[derive(Drop)]
-pub struct Session<L: Logic> {
+pub struct Session<L> {
     logic: L,
     // The standing rules, oldest first.
     rules: Vec<Rule>,

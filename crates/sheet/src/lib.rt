@@ -2,6 +2,8 @@
 // lower numbers, which is written once. A `Table` has both and is a sheet at all times, an `Index` has the numbers of the
 // terms by their buckets, and an `OpenSheet` is the two, with the terms found in the buckets that are theirs.
 
+#![tactic(auto)]
+
 ghost use Rattle.std.specs.Prelude.{◌≡◌, [], ◌∷◌, IfOk};
 ghost use Rattle.sheet.specs.Refusals.{refusal_number};
 ghost use Rattle.sheet.specs.Answers.{answer_of, AddsSymbol, AddsName, AddsTerm};

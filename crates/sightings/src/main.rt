@@ -2,6 +2,8 @@
 // equal, a line `on S` that the switch S was seen on. After the log come the pairs of seen tags that are forced equal, and
 // an example: a value for each seen tag and switch that fits all that was seen and makes nothing else true.
 
+#![tactic(auto)]
+
 use logic::{Assumed, Equation, Kind, Logic, Refusal, TellingLogic};
 use std::io;
 use switches::Switches;
@@ -120,9 +122,9 @@ fn main(rt: HostRuntime) -> anyhow::Result<()> {
         seen_switches: Vec::new(heap),
     };
     read_log(&rt, &mut bench)?;
-    bench.seen_tags.sort();
+    bench.seen_tags.sort_unstable();
     bench.seen_tags.dedup();
-    bench.seen_switches.sort();
+    bench.seen_switches.sort_unstable();
     bench.seen_switches.dedup();
     print_forced(&rt, &bench.tags, &bench.seen_tags)?;
     print_example(&rt, &bench.tags, "tag", &bench.seen_tags)?;

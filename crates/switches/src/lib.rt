@@ -1,6 +1,8 @@
 // The logic of 256 switches: the equation (s, 0) says that switch s is on. `Lights` has the standing equations, with a table
 // that finds a switch among them at once.
 
+#![tactic(auto)]
+
 ghost use Rattle.std.specs.Prelude.{◌≡◌, [], IfOk};
 ghost use Rattle.switches.specs.Switches.{switches, switch_telling, told_by};
 ghost use Rattle.switches.specs.Forcing.{told_freest};

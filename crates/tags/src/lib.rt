@@ -1,6 +1,8 @@
 // The logic of 1,024 tags: the equation (a, b) says that the tags a and b agree. `History` has the standing equations with
 // the groups of forced-equal tags, and `Partition` is one division of the tags into groups.
 
+#![tactic(auto)]
+
 ghost use Rattle.std.specs.Prelude.{◌≡◌, [], IfOk};
 ghost use Rattle.tags.specs.Tags.{tags, tag_telling};
 ghost use Rattle.tags.specs.Partitions.{told_by};

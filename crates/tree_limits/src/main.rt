@@ -1,5 +1,7 @@
 // Both sides of each limit of sheets, trees and pairs, run and printed.
 
+#![tactic(auto)]
+
 use beacon::Beacon;
 use logic::{Assumed, Equation, Kind, Logic, TellingLogic};
 use pair::Pair;

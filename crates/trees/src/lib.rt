@@ -2,6 +2,8 @@
 // standing equations with the classes of forced-equal terms, and `Layers` are these for each number of equations. `settling`
 // brings the two sides of one equation more together, and `telling` reads what is told of a name.
 
+#![tactic(auto)]
+
 ghost use Rattle.std.specs.Prelude.{◌≡◌, [], IfOk};
 ghost use Rattle.sheet.specs.Models.{arities_of, rows_of, Read};
 ghost use Rattle.trees.specs.Models.{arities_in, rows_in, stands_in, theory_in, telling_in, told_in, table_in, heads_in, settled_in};

@@ -1,9 +1,11 @@
 // The walk of an ask, over any logic. `ask` runs it, and its contract says that the answer is the one of the relation in
 // the crate `rules`.
 
+#![tactic(auto)]
+
 ghost use Rattle.std.specs.Prelude.{◌≡◌, ◌+◌, ◌<◌, ◌≤◌, [], length, IfSome, vec_len, vec_capacity};
 ghost use Rattle.logic.specs.Answers.{Keeps};
-ghost use Rattle.rules.specs.Rules.{width as width_of_lem, HadAll};
+ghost use Rattle.rules.specs.Rules.{width as width_of, HadAll};
 ghost use Rattle.rules.specs.Marks.{Ready};
 ghost use Rattle.walk.specs.Written.{written};
 ghost use Rattle.walk.specs.Picks.{Judged, Picks};
@@ -172,7 +174,7 @@ fn is_open<L: Logic>(logic: &L, rule: &[Literal]) -> bool
 
 // How many equations a rule has, repeats counted.
 fn width(rule: &[Literal]) -> usize
-    ensures { result ≡ width_of_lem rule.now }
+    ensures { result ≡ width_of rule.now }
 {
     let mut n = 0;
     for literal in rule {

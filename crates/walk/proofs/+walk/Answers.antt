@@ -8,17 +8,17 @@ use Rattle.walk.specs.Walked.{Walked, Trying}
 use Rattle.walk.proofs.Bests.{read}
 use Rattle.walk.proofs.Trials.{walked_found, begin_trying, end_trying, skip_trying, over_trying, clash_trying, ready_inner, choices_inner, done_trying, next_trying, if_not_none, if_none, cut_back}
 use Rattle.walk.proofs.+walk.Goals as goal
-use Rattle.walk.proofs.+walk.Goals.{in-Equal+else-trials-budget+then-takes+in-None, in-Equal+else-trials-budget+else-takes, in-default-literal}
+use Rattle.walk.proofs.+walk.Goals.{in-Equal+else-trials-budget+then-takes+in-None, in-Equal+else-trials-budget+else-takes, in_default-literal}
 
-pub returns-in-default : goal.returns-in-default
-returns-in-default g x c =
+pub returns-in_default : goal.returns-in_default
+returns-in_default g x c =
     let m = g.L.Logic in
     record {
       trials = c.requires.affords;
       capacity = refl;
       bare = tt;
       walks = λ good shown ready.
-          walked_found m.theory m.telling m.stands m.lawful (written c.args.rules.now) c.args.budget c.args.logic.now c.args.made (vec_items c.args.choices.now) good (c.in-default.ensures.picks good) shown;
+          walked_found m.theory m.telling m.stands m.lawful (written c.args.rules.now) c.args.budget c.args.logic.now c.args.made (vec_items c.args.choices.now) good (c.in_default.ensures.picks good) shown;
     }
 
 pub returns-then-depth-eq0 : goal.returns-then-depth-eq0
@@ -137,13 +137,13 @@ loop-literal-preserved g x c =
             subst₂ P (sym w.logic-is) (sym w.trials-is)
             (clash_trying m.theory m.telling m.stands m.lawful (written rs) c.args.budget s c.args.made k ls z c.loop-literal.trials i y _ w.in-Equal.e c.loop-literal-test.true w.in-Equal.is c.args.depth same p ready w.takes.new.logic (omega (arith, w.if-trials-budget.false, c.loop-literal.invariant.3)) (w.takes.ensures.keeps y.kept.lawful) (w.if-takes.ensures.tried y.kept.lawful)),
       )
-      | in-default-literal w ↦ (
+      | in_default-literal w ↦ (
         ap vec_items w.choices-is ∙ c.loop-literal.invariant.0,
         ap vec_len w.choices-is ∙ c.loop-literal.invariant.1,
         ap vec_capacity w.choices-is ∙ c.loop-literal.invariant.2,
         omega (arith, w.trials-is, c.loop-literal.invariant.3),
         λ good shown ready. subst₂ P (sym w.logic-is) (sym w.trials-is)
-            (skip_trying m.theory m.telling m.stands m.lawful (written rs) c.args.budget s c.args.made k ls z c.loop-literal.trials i (c.loop-literal.invariant.4 good shown ready) _ w.in-default-literal.field-0 c.loop-literal-test.true w.in-default-literal.is),
+            (skip_trying m.theory m.telling m.stands m.lawful (written rs) c.args.budget s c.args.made k ls z c.loop-literal.trials i (c.loop-literal.invariant.4 good shown ready) _ w.in_default-literal.field-0 c.loop-literal-test.true w.in_default-literal.is),
       )
     ]
 

@@ -6,18 +6,18 @@ use Rattle.pair.specs.Members.{by_side}
 use Rattle.pair.proofs.PairLogic.assume.Goals as goal
 
 -- the side does not refuse what it has, where there is room
-pub returns-in-err-assumed : goal.returns-in-err-assumed
-returns-in-err-assumed g c =
+pub returns-in_err-assumed : goal.returns-in_err-assumed
+returns-in_err-assumed g c =
     let a = g.A.Logic in
     let b = g.B.Logic in
     let s = c.args.self.now in
     let z = c.assume.new.self in
     let less : length (vec_items s.turns.standing) < 256 = omega (arith, c.len.ensures.count, c.len.ensures.few, c.if-len-eq-ROOM.false) in
-    let refusal = c.in-err-assumed.field-0.0 in
+    let refusal = c.in_err-assumed.field-0.0 in
     let answer = pair_refuses (by_side a.theory b.theory s.both) (by_side a.lawful b.lawful s.both) (by_side a.stands b.stands s.both) (vec_items s.turns.standing)
     (each_side _ (g.met.A.Logic.freest s.both.first) (g.met.B.Logic.freest s.both.second)) c.args.e c.in-Some.side c.in-Some.halved c.in-Some.ensures
     (by_side a.theory b.theory z) (by_side a.telling b.telling s.both) (by_side a.telling b.telling z) (by_side a.lawful b.lawful z) (by_side a.stands b.stands z)
-    c.if-not-has.ensures less (outcome_of (Err refusal)) c.in-err-assumed.ensures (refusal_number refusal) refl (outcome_of c.from-residual.result) in
+    c.if-not-has.ensures less (outcome_of (Err refusal)) c.in_err-assumed.ensures (refusal_number refusal) refl (outcome_of c.from_residual.result) in
     record { keeps = λ l. (answer l).0; assumes = λ l. (answer l).1 }
 
 pub returns-in-Taken : goal.returns-in-Taken
@@ -30,12 +30,12 @@ returns-in-Taken g c =
     let answer = pair_takes (by_side a.theory b.theory s.both) (by_side a.lawful b.lawful s.both) (by_side a.stands b.stands s.both) (vec_items s.turns.standing)
     (each_side _ (g.met.A.Logic.freest s.both.first) (g.met.B.Logic.freest s.both.second)) c.args.e c.in-Some.side c.in-Some.halved c.in-Some.ensures
     (by_side a.theory b.theory z) (by_side a.telling b.telling s.both) (by_side a.telling b.telling z) (by_side a.lawful b.lawful z) (by_side a.stands b.stands z)
-    c.if-not-has.ensures less (outcome_of (Ok c.in-ok-assumed.assumed)) c.in-ok-assumed.ensures
-    (ap (λ x. outcome_of (Ok x)) {x = c.in-ok-assumed.assumed} c.in-Taken.is) (vec_items c.push.new.self.standing) c.push.ensures in
+    c.if-not-has.ensures less (outcome_of (Ok c.in_ok-assumed.assumed)) c.in_ok-assumed.ensures
+    (ap (λ x. outcome_of (Ok x)) {x = c.in_ok-assumed.assumed} c.in-Taken.is) (vec_items c.push.new.self.standing) c.push.ensures in
     record { keeps = λ l. (answer l).0; assumes = λ l. (answer l).1 }
 
-pub returns-in-default-assumed : goal.returns-in-default-assumed
-returns-in-default-assumed g c =
+pub returns-in_default-assumed : goal.returns-in_default-assumed
+returns-in_default-assumed g c =
     let a = g.A.Logic in
     let b = g.B.Logic in
     let s = c.args.self.now in
@@ -44,6 +44,6 @@ returns-in-default-assumed g c =
     let answer = pair_clashes (by_side a.theory b.theory s.both) (by_side a.lawful b.lawful s.both) (by_side a.stands b.stands s.both) (vec_items s.turns.standing)
     (each_side _ (g.met.A.Logic.freest s.both.first) (g.met.B.Logic.freest s.both.second)) c.args.e c.in-Some.side c.in-Some.halved c.in-Some.ensures
     (by_side a.theory b.theory z) (by_side a.telling b.telling s.both) (by_side a.telling b.telling z) (by_side a.lawful b.lawful z) (by_side a.stands b.stands z)
-    c.if-not-has.ensures less (outcome_of (Ok c.in-ok-assumed.assumed)) c.in-ok-assumed.ensures
-    (ap (λ x. outcome_of (Ok x)) {x = c.in-ok-assumed.assumed} c.in-default-assumed.is) in
+    c.if-not-has.ensures less (outcome_of (Ok c.in_ok-assumed.assumed)) c.in_ok-assumed.ensures
+    (ap (λ x. outcome_of (Ok x)) {x = c.in_ok-assumed.assumed} c.in_default-assumed.is) in
     record { keeps = λ l. (answer l).0; assumes = λ l. (answer l).1 }

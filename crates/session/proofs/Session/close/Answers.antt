@@ -7,15 +7,15 @@ use Rattle.session.specs.Led.{Led}
 use Rattle.session.proofs.Leads.{led_unopened, led_close, written_take, taken_had}
 use Rattle.session.proofs.Session.close.Goals as goal
 
-pub returns-in-default : goal.returns-in-default
-returns-in-default g c =
+pub returns-in_default : goal.returns-in_default
+returns-in_default g c =
     let m = g.L.Logic in
     let s = c.args.self.now in
-    let none : length (vec_items s.scopes) ≡ 0 = omega (arith, s.scopes.ok.0, c.in-default.ensures.cases.0) in
+    let none : length (vec_items s.scopes) ≡ 0 = omega (arith, s.scopes.ok.0, c.in_default.ensures.cases.0) in
     λ cs rs l. (
       kept_refl (m.theory s.logic) (m.telling s.logic) (m.lawful s.logic) l.lawful,
       led_unopened (m.theory s.logic) (m.lawful s.logic) (m.stands s.logic) (written (vec_items s.rules)) (vec_items s.scopes) (vec_items s.choices) s.shown cs rs l
-          (vec_items c.pop.new.self) none (c.in-default.ensures.items ∙ append-nil (vec_items c.pop.new.self)),
+          (vec_items c.pop.new.self) none (c.in_default.ensures.items ∙ append-nil (vec_items c.pop.new.self)),
     )
 
 pub returns : goal.returns

@@ -15,13 +15,13 @@ use Rattle.session.proofs.Session.post.Goals as goal
 short_rule : (r : Rule) (x : List Literal) → literals_of r ≡ x → length x ≤ 16
 short_rule r x is = omega (arith, r.short, ap length is, length-take r.len r.literals)
 
-pub returns-in-default : goal.returns-in-default
-returns-in-default g c =
+pub returns-in_default : goal.returns-in_default
+returns-in_default g c =
     let m = g.L.Logic in
     let s = c.args.self.now in
     λ cs rs l. (
       kept_refl (m.theory s.logic) (m.telling s.logic) (m.lawful s.logic) l.lawful,
-      led_long (m.theory s.logic) (m.lawful s.logic) (m.stands s.logic) (written (vec_items s.rules)) (vec_items s.scopes) (vec_items s.choices) s.shown cs rs l c.args.literals.now c.in-default.ensures,
+      led_long (m.theory s.logic) (m.lawful s.logic) (m.stands s.logic) (written (vec_items s.rules)) (vec_items s.scopes) (vec_items s.choices) s.shown cs rs l c.args.literals.now c.in_default.ensures,
     )
 
 pub returns-then-not-has_all : goal.returns-then-not-has_all

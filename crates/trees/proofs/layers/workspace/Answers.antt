@@ -9,7 +9,7 @@ returns c =
     let s = c.args.sheet.now in
     let long = many s c.terms-n.result.now c.terms-n.ensures in
     record {
-      marks = omega (arith, c.in-ok-marks.ensures.made, long);
-      lowest = omega (arith, c.in-ok-lowest.ensures.made, long);
-      sheet = subst (λ (ar : List ℕ). Sheet ar (rows_of s)) (sym c.in-ok-order.ensures.0) c.terms-n.ensures.sheet;
+      marks = omega (arith, c.in_ok-marks.ensures.len, long);
+      lowest = omega (arith, c.in_ok-lowest.ensures.len, long);
+      sheet = subst (λ (ar : List ℕ). Sheet ar (rows_of s)) (sym c.in_ok-order.ensures.0) c.terms-n.ensures.sheet;
     }

@@ -1,7 +1,6 @@
 use Rattle.std.proofs.Common.{◌≡◌, ℕ, ◌+◌, ◌<◌, ◌≤◌, List, [], ◌∷◌, ◌++◌, length, get_or, take, set, sym, ap, ◌∙◌, add-one, arith, length-set, take-suc-set}
 use Rattle.std.proofs.lemmas.List.{take_more, take_all}
 use Rattle.rules.specs.declared.Literal.{Literal}
-use Rattle.rules.specs.declared.Literal.TheVariants as V
 use Rattle.walk.proofs.rule.copied.Goals as goal
 
 -- one literal more is copied

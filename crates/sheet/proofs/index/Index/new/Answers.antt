@@ -5,5 +5,5 @@ use Rattle.sheet.proofs.index.Index.new.Goals as goal
 
 pub returns : goal.returns
 returns c =
-    subst₂ (λ (fs es : List (Option ℕ)). Indexed [] fs es) (sym (c.in-ok-latest.ensures.items-if-clones-equal (λ y h. search rules)))
-    (sym c.in-ok-earlier.ensures.items) indexed_none
+    subst₂ (λ (fs es : List (Option ℕ)). Indexed [] fs es) (sym (c.in_ok-latest.ensures.items_if_clones_equal (λ y h. search rules)))
+    (sym c.in_ok-earlier.ensures.items) indexed_none

@@ -12,18 +12,13 @@ push_reserved-requires c =
     let self = c.args.self.now in
     omega (arith, c.requires.few, length-map (vec_items self.terms) shape, self.terms.ok.0, self.term_room)
 
-pub invariant-of-self : goal.invariant-of-self
-invariant-of-self c =
+pub invariant_of-self : goal.invariant_of-self
+invariant_of-self c =
     let self = c.args.self.now in
     let ar = vec_items self.arities in
-    let ts = vec_items self.terms in (
-      self.symbol_room,
-      (
-        omega (arith, self.term_room, c.push_reserved.ensures.capacity),
-        (
-          subst (λ (qs : List Row). ∥ Sheet ar qs ∥₁) (sym (rows_push ts (vec_items c.push_reserved.new.self) c.args.term c.push_reserved.ensures.items))
-              (∥∥₁_map self.sheet (sheet_row ar (map shape ts) (shape c.args.term) c.requires.fresh c.requires.few)),
-          tt,
-        ),
-      ),
-    )
+    let ts = vec_items self.terms in record {
+      symbol_room = self.symbol_room;
+      term_room = omega (arith, self.term_room, c.push_reserved.ensures.capacity);
+      sheet = subst (λ (qs : List Row). ∥ Sheet ar qs ∥₁) (sym (rows_push ts (vec_items c.push_reserved.new.self) c.args.term c.push_reserved.ensures.items))
+          (∥∥₁_map self.sheet (sheet_row ar (map shape ts) (shape c.args.term) c.requires.fresh c.requires.few));
+    }

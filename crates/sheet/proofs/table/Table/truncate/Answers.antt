@@ -6,17 +6,12 @@ use Rattle.sheet.specs.Rows.{shape}
 use Rattle.sheet.proofs.Sheets.{sheet_oldest}
 use Rattle.sheet.proofs.table.Table.truncate.Goals as goal
 
-pub invariant-of-self : goal.invariant-of-self
-invariant-of-self c =
+pub invariant_of-self : goal.invariant_of-self
+invariant_of-self c =
     let self = c.args.self.now in
-    let ar = vec_items self.arities in (
-      self.symbol_room,
-      (
-        omega (arith, self.term_room, c.truncate.ensures.capacity),
-        (
-          subst (λ (qs : List Row). ∥ Sheet ar qs ∥₁) (take-map shape c.args.n (vec_items self.terms) ∙ sym (ap (map shape) c.truncate.ensures.items))
-              (∥∥₁_map self.sheet (sheet_oldest ar (map shape (vec_items self.terms)) c.args.n)),
-          tt,
-        ),
-      ),
-    )
+    let ar = vec_items self.arities in record {
+      symbol_room = self.symbol_room;
+      term_room = omega (arith, self.term_room, c.truncate.ensures.capacity);
+      sheet = subst (λ (qs : List Row). ∥ Sheet ar qs ∥₁) (take-map shape c.args.n (vec_items self.terms) ∙ sym (ap (map shape) c.truncate.ensures.items))
+          (∥∥₁_map self.sheet (sheet_oldest ar (map shape (vec_items self.terms)) c.args.n));
+    }

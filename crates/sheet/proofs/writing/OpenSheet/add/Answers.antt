@@ -16,15 +16,17 @@ push-requires-2 c =
       few = omega (arith, (indexed_rows self).long, length-map (rows_of self) bucket, c.len-number.ensures.count, c.len-number.ensures.few, c.if-number-eq-TERMS.false);
     }
 
-pub invariant-of-self : goal.invariant-of-self
-invariant-of-self c =
+pub invariant_of-self : goal.invariant_of-self
+invariant_of-self c =
     let self = c.args.self.now in
     let bs = map bucket (rows_of self) in
     let index = c.push-2.new.self in
     let grown = rows_push (vec_items self.table.terms) (vec_items c.push.new.self.terms) c.args.term c.push.ensures.terms in
     let buckets : bs ++ (c.bucket_of.result ∷ []) ≡ map bucket (map shape (vec_items c.push.new.self.terms))
     = ap (λ (b : ℕ). bs ++ (b ∷ [])) c.bucket_of.ensures.value ∙ sym (ap (map bucket) grown ∙ map_push bucket (rows_of self) (shape c.args.term)) in
-    (∥∥₁_map self.indexed (λ x. subst (λ (cs : List ℕ). Indexed cs (vec_items index.latest) (vec_items index.earlier)) buckets (c.push-2.ensures bs x)), tt)
+    record {
+      indexed = ∥∥₁_map self.indexed (λ x. subst (λ (cs : List ℕ). Indexed cs (vec_items index.latest) (vec_items index.earlier)) buckets (c.push-2.ensures bs x));
+    }
 
 pub returns : goal.returns
 returns c =

@@ -4,10 +4,9 @@ use Rattle.sheet.specs.Indexes.{bucket, Indexed}
 use Rattle.sheet.specs.declared.rows.Term.{Term}
 use Rattle.sheet.proofs.writing.OpenSheet.clear.Goals as goal
 
-pub invariant-of-self : goal.invariant-of-self
-invariant-of-self c =
-    let index = c.clear-2.new.self in (
-      ∣ subst (λ (bs : List ℕ). Indexed bs (vec_items index.latest) (vec_items index.earlier))
-          (sym (ap (λ (ts : List Term). map bucket (map shape ts)) c.clear.ensures.terms)) c.clear-2.ensures ∣₁,
-      tt,
-    )
+pub invariant_of-self : goal.invariant_of-self
+invariant_of-self c =
+    let index = c.clear-2.new.self in record {
+      indexed = ∣ subst (λ (bs : List ℕ). Indexed bs (vec_items index.latest) (vec_items index.earlier))
+          (sym (ap (λ (ts : List Term). map bucket (map shape ts)) c.clear.ensures.terms)) c.clear-2.ensures ∣₁;
+    }

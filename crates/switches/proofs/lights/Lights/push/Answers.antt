@@ -9,8 +9,8 @@ use Rattle.switches.proofs.Firsts.{firsts_again, firsts_new}
 use Rattle.switches.proofs.lights.Lights.push.Goals as goal
 use Rattle.switches.proofs.lights.Lights.push.Goals.{then-not-is_on, else-not-is_on}
 
-pub invariant-of-self : goal.invariant-of-self
-invariant-of-self c =
+pub invariant_of-self : goal.invariant_of-self
+invariant_of-self c =
     let es = vec_items c.args.self.now.standing in
     let e = c.args.e in
     let first = c.args.self.now.first in
@@ -24,13 +24,11 @@ invariant-of-self c =
       | else-not-is_on w ↦
           subst (Firsts (es ++ (e ∷ []))) (sym (ap (λ x. x.1.1.0) w.self-is))
           (firsts_again es e first c.args.self.now.firsts (on_alone es e had (w.if-not-is_on.ensures.0 refl)))
-    ] in (
-      omega (arith, c.args.self.now.room, c.push_reserved.ensures.capacity),
-      (
-        omega (arith, c.push_reserved.ensures.len),
-        (subst (λ (x : List Equation). Firsts x c.if-not-is_on.self.1.1.0) (sym c.push_reserved.ensures.items) firsts, tt),
-      ),
-    )
+    ] in record {
+      room = omega (arith, c.args.self.now.room, c.push_reserved.ensures.capacity);
+      few = omega (arith, c.push_reserved.ensures.len);
+      firsts = subst (λ (x : List Equation). Firsts x c.if-not-is_on.self.1.1.0) (sym c.push_reserved.ensures.items) firsts;
+    }
 
 pub returns : goal.returns
 returns c = record { newest = c.push_reserved.ensures.items; fits = no_clash (vec_items c.args.self.now.standing) c.args.e }

@@ -6,26 +6,17 @@ use Rattle.tags.specs.declared.partition.Partition.{Partition}
 use Rattle.tags.specs.LayersLemmas.{layers_back}
 use Rattle.tags.proofs.history.History.truncate.Goals as goal
 
-pub invariant-of-self : goal.invariant-of-self
-invariant-of-self c =
+pub invariant_of-self : goal.invariant_of-self
+invariant_of-self c =
     let self = c.args.self.now in
     let es = vec_items self.standing in
     let ps = vec_items self.partitions in
     let kept : c.len.result + 1 ≡ length (take c.args.n es) + 1
-    = omega (arith, c.len.ensures, c.truncate.new.self.ok.0, ap length c.truncate.ensures.items) in (
-      omega (arith, self.room, c.truncate.ensures.capacity),
-      (
-        omega (arith, self.space, c.truncate-2.ensures.capacity),
-        (
-          omega (arith, self.few, c.truncate.ensures.len),
-          (
-            omega (arith, self.one_more, c.truncate.ensures.len, c.truncate-2.ensures.len, c.len.ensures),
-            (
-              subst₂ (λ (fs : List Equation) (qs : List Partition). ∥ Layers fs qs ∥₁) (sym c.truncate.ensures.items) (sym c.truncate-2.ensures.items)
-                  (∥∥₁_map self.layers (layers_back es ps c.args.n (c.len.result + 1) kept)),
-              tt,
-            ),
-          ),
-        ),
-      ),
-    )
+    = omega (arith, c.len.ensures, c.truncate.new.self.ok.0, ap length c.truncate.ensures.items) in record {
+      room = omega (arith, self.room, c.truncate.ensures.capacity);
+      space = omega (arith, self.space, c.truncate-2.ensures.capacity);
+      few = omega (arith, self.few, c.truncate.ensures.len);
+      one_more = omega (arith, self.one_more, c.truncate.ensures.len, c.truncate-2.ensures.len, c.len.ensures);
+      layers = subst₂ (λ (fs : List Equation) (qs : List Partition). ∥ Layers fs qs ∥₁) (sym c.truncate.ensures.items) (sym c.truncate-2.ensures.items)
+          (∥∥₁_map self.layers (layers_back es ps c.args.n (c.len.result + 1) kept));
+    }

@@ -9,4 +9,4 @@ none zero = refl
 none (suc n) = refl
 
 pub returns : goal.returns
-returns c = record { keeps = λ _. kept_refl nothing (one_term c.args.self.now.term) (Unit {0}) tt; oldest = λ _. none c.args.-n }
+returns c = record { keeps = λ _. kept_refl nothing (one_term c.args.self.now.term) (Unit {0}) tt; oldest = λ _. none c.args._n }

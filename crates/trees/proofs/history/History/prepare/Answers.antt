@@ -28,32 +28,21 @@ next-requires c =
       sides = (omega (arith, sides.0, many self.sheet ts read), omega (arith, sides.1, many self.sheet ts read));
     }
 
-pub invariant-of-self : goal.invariant-of-self
-invariant-of-self c =
+pub invariant_of-self : goal.invariant_of-self
+invariant_of-self c =
     let self = c.args.self.now in
     let now = c.next.new.self in
     let ts = c.terms.result.now in
     let read = c.terms.ensures in
-    let last : c.len.result ≡ length (stands_in self) = omega (arith, self.standing.ok.0, c.len.ensures) in (
-      self.room,
-      (
-        self.few,
-        (
-          omega (arith, self.table_room, c.next.ensures.long.0),
-          (
-            omega (arith, self.head_room, c.next.ensures.long.1),
-            (
-              ∣ workable_ready self.sheet ts read now.work c.next.ensures.work ∣₁,
-              (
-                layers_still self.sheet (stands_in self) c.args.e ts read c.len.result last (vec_items self.layers.tables) (vec_items self.layers.heads)
-                    (vec_items now.tables) (vec_items now.heads) c.next.result c.next.ensures.next self.settled,
-                tt,
-              ),
-            ),
-          ),
-        ),
-      ),
-    )
+    let last : c.len.result ≡ length (stands_in self) = omega (arith, self.standing.ok.0, c.len.ensures) in record {
+      room = self.room;
+      few = self.few;
+      table_room = omega (arith, self.table_room, c.next.ensures.long.0);
+      head_room = omega (arith, self.head_room, c.next.ensures.long.1);
+      ready = ∣ workable_ready self.sheet ts read now.work c.next.ensures.work ∣₁;
+      settled = layers_still self.sheet (stands_in self) c.args.e ts read c.len.result last (vec_items self.layers.tables) (vec_items self.layers.heads)
+          (vec_items now.tables) (vec_items now.heads) c.next.result c.next.ensures.next self.settled;
+    }
 
 pub returns : goal.returns
 returns c =

@@ -6,27 +6,16 @@ use Rattle.trees.specs.Models.{rows_in, stands_in}
 use Rattle.trees.proofs.Layering.{layers_push}
 use Rattle.trees.proofs.history.History.push.Goals as goal
 
-pub invariant-of-self : goal.invariant-of-self
-invariant-of-self c =
+pub invariant_of-self : goal.invariant_of-self
+invariant_of-self c =
     let self = c.args.self.now in
     let ts = vec_items self.layers.tables in
-    let hs = vec_items self.layers.heads in (
-      omega (arith, self.room, c.push_reserved.ensures.capacity),
-      (
-        omega (arith, c.push_reserved.ensures.len, c.requires.few, self.standing.ok.0),
-        (
-          self.table_room,
-          (
-            self.head_room,
-            (
-              self.ready,
-              (
-                subst (λ (fs : List Equation). ∥ Layered (rows_in self) fs ts hs ∥₁) (sym c.push_reserved.ensures.items)
-                    (∥∥₁_map₂ c.requires.prepared self.settled (layers_push (rows_in self) (stands_in self) ts hs c.args.e)),
-                tt,
-              ),
-            ),
-          ),
-        ),
-      ),
-    )
+    let hs = vec_items self.layers.heads in record {
+      room = omega (arith, self.room, c.push_reserved.ensures.capacity);
+      few = omega (arith, c.push_reserved.ensures.len, c.requires.few, self.standing.ok.0);
+      table_room = self.table_room;
+      head_room = self.head_room;
+      ready = self.ready;
+      settled = subst (λ (fs : List Equation). ∥ Layered (rows_in self) fs ts hs ∥₁) (sym c.push_reserved.ensures.items)
+          (∥∥₁_map₂ c.requires.prepared self.settled (layers_push (rows_in self) (stands_in self) ts hs c.args.e));
+    }

@@ -6,27 +6,16 @@ use Rattle.trees.specs.Models.{rows_in, stands_in}
 use Rattle.trees.proofs.Layering.{layers_back}
 use Rattle.trees.proofs.history.History.truncate.Goals as goal
 
-pub invariant-of-self : goal.invariant-of-self
-invariant-of-self c =
+pub invariant_of-self : goal.invariant_of-self
+invariant_of-self c =
     let self = c.args.self.now in
     let ts = vec_items self.layers.tables in
-    let hs = vec_items self.layers.heads in (
-      omega (arith, self.room, c.truncate.ensures.capacity),
-      (
-        omega (arith, self.few, c.truncate.ensures.len),
-        (
-          self.table_room,
-          (
-            self.head_room,
-            (
-              self.ready,
-              (
-                subst (λ (fs : List Equation). ∥ Layered (rows_in self) fs ts hs ∥₁) (sym c.truncate.ensures.items)
-                    (∥∥₁_map self.settled (layers_back (rows_in self) (stands_in self) ts hs c.args.n)),
-                tt,
-              ),
-            ),
-          ),
-        ),
-      ),
-    )
+    let hs = vec_items self.layers.heads in record {
+      room = omega (arith, self.room, c.truncate.ensures.capacity);
+      few = omega (arith, self.few, c.truncate.ensures.len);
+      table_room = self.table_room;
+      head_room = self.head_room;
+      ready = self.ready;
+      settled = subst (λ (fs : List Equation). ∥ Layered (rows_in self) fs ts hs ∥₁) (sym c.truncate.ensures.items)
+          (∥∥₁_map self.settled (layers_back (rows_in self) (stands_in self) ts hs c.args.n));
+    }
