@@ -1,6 +1,5 @@
 -- Sheets of terms: symbols by their arities, and rows, one for each term. Assumes nothing.
 use Rattle.std.specs.Prelude.{◌≡◌, ℕ, ◌<◌, ◌≤◌, List, [], length, get_or, slice_index, slice_index_or}
-use Rattle.std.proofs.Math.Decide.{ℕ_discrete}
 
 -- A row of a sheet: a name, or a symbol's number over the term numbers of its arguments, first to last.
 pub data Row : Type 0 where

@@ -1,6 +1,6 @@
 -- The theory of trees on a sheet, and what is told of each name. Assumes nothing.
-use Rattle.std.specs.Prelude.{◌≡◌, ℕ, zero, suc, ◌*◌, ◌<◌, ◌≤◌, ◌&&◌, ◌⊎◌, List, length, nat_lt, slice_index}
-use Rattle.logic.specs.Trees.{Tree, Forest, World, width}
+use Rattle.std.specs.Prelude.{◌≡◌, ℕ, zero, suc, ◌*◌, ◌<◌, ◌&&◌, List, length, nat_lt, slice_index}
+use Rattle.logic.specs.Trees.{Tree, Forest, width}
 use Rattle.logic.specs.Theories.{Theory, Forced}
 use Rattle.logic.specs.Tellings.{Told, Telling}
 use Rattle.logic.specs.Tellings.Told.{told, refused}

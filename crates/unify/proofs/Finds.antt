@@ -1,7 +1,7 @@
 -- A term moved up to its parent's parent: no class changes, and the way up gets shorter. Assumes nothing.
-use Rattle.std.proofs.Common.{◌≡◌, ℕ, ◌<◌, ◌≤◌, Bool, true, false, ◌⊎◌, List, length, get_or, set, sym, refl, ap, ◌∙◌, inl, inr, arith, length-set, get_or-set_other, get_or-set_same}
+use Rattle.std.proofs.Common.{◌≡◌, ℕ, ◌<◌, ◌≤◌, List, length, get_or, set, sym, ap, ◌∙◌, inl, inr, arith, length-set, get_or-set_other, get_or-set_same}
 use Rattle.std.proofs.lemmas.Bool.{eq-eqb, ne_eqb, cases_eq}
-use Rattle.groups.specs.Tables.{leads, tally}
+use Rattle.groups.specs.Tables.{leads}
 use Rattle.unify.specs.Parents.{Parents, Rooted, roots}
 use Rattle.unify.proofs.Counts.{tally_same}
 

@@ -1,8 +1,8 @@
 -- The first numbers with each key, as numbers are gone through in order. Assumes nothing.
-use Rattle.std.proofs.Common.{◌≡◌, ℕ, ◌+◌, ◌<◌, ◌≤◌, Bool, true, false, cond, ltb, ◌⊎◌, List, length, get_or, set, sym, refl, ap, ◌∙◌, subst, inl, inr, arith, length-set, get_or-set_other, get_or-set_same}
+use Rattle.std.proofs.Common.{◌≡◌, ℕ, ◌+◌, ◌<◌, ◌≤◌, Bool, true, false, cond, ltb, List, length, get_or, set, sym, refl, ap, ◌∙◌, subst, inl, inr, arith, length-set, get_or-set_other, get_or-set_same}
 use Rattle.std.proofs.lemmas.Bool.{cases_eq, cases_lt, lt-ltb, le-ltb}
 use Rattle.terms.specs.Sheets.{Row, row, Compound}
-use Rattle.classes.specs.Classes.{class, Lowest, Heads}
+use Rattle.classes.specs.Classes.{class, Heads}
 use Rattle.unify.specs.Settling.{Lows}
 use Rattle.unify.specs.Firsts.{Firsts, noted}
 

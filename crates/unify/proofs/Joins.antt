@@ -1,7 +1,7 @@
 -- One class put under another: the parents, the heads and the number of classes after it. Assumes nothing.
-use Rattle.std.proofs.Common.{◌≡◌, ℕ, ◌<◌, ◌≤◌, min, max, Bool, true, false, cond, eqb, ◌⊎◌, List, length, get_or, set, sym, refl, ap, ◌∙◌, subst, inl, inr, arith, length-set, get_or-set_other, get_or-set_same}
+use Rattle.std.proofs.Common.{◌≡◌, ℕ, ◌<◌, ◌≤◌, min, max, Bool, true, false, cond, eqb, ◌⊎◌, List, length, get_or, set, sym, ap, ◌∙◌, subst, inl, inr, arith, length-set, get_or-set_other, get_or-set_same}
 use Rattle.std.proofs.lemmas.Bool.{eq-eqb, ne_eqb, eqb-true, cases_eq}
-use Rattle.groups.specs.Tables.{leads, tally}
+use Rattle.groups.specs.Tables.{leads}
 use Rattle.terms.specs.Sheets.{Row, row, Compound}
 use Rattle.unify.specs.Parents.{Parents, Rooted, roots}
 use Rattle.unify.specs.Merging.{Coarser, Tops, joined, Joining}

@@ -1,5 +1,5 @@
 -- Classes by the numbers that a visit of all of them gave. Assumes nothing.
-use Rattle.std.proofs.Common.{◌≡◌, ℕ, zero, suc, ◌<◌, ◌≤◌, ◌⊎◌, List, [], ◌∷◌, map, length, get_or, sym, refl, ap, ◌∙◌, ap₂, inl, inr, arith}
+use Rattle.std.proofs.Common.{◌≡◌, ℕ, zero, suc, ◌<◌, List, map, length, get_or, sym, refl, ap, ◌∙◌, ap₂, inl, inr, arith}
 use Rattle.std.proofs.lemmas.List.{get_or-map, length-map, ext_get_or}
 use Rattle.std.proofs.lemmas.Bool.{cases_lt}
 use Rattle.logic.specs.Trees.{Tree}
@@ -8,7 +8,7 @@ use Rattle.terms.specs.Values.{forest, Solves}
 use Rattle.classes.specs.Classes.{Respects, Closed, Congruent, Ordered, class, Lowest}
 use Rattle.unify.specs.declared.Mark.{Mark}
 use Rattle.unify.specs.Merging.{Coarser, Tops}
-use Rattle.unify.specs.Visits.{mark, number, Numbered, Entry, Visited}
+use Rattle.unify.specs.Visits.{mark, number, Entry}
 use Rattle.unify.specs.Settling.{AllVisited, number_of}
 use Rattle.unify.proofs.Lists.{over_of, map_places}
 

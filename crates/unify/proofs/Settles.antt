@@ -1,10 +1,8 @@
 -- The next settled table, from the one before by bringing two terms together. Assumes nothing.
-use Rattle.std.proofs.Common.{◌≡◌, ℕ, ◌<◌, ◌≤◌, List, [], ◌∷◌, ◌++◌, map, length, get_or, sym, refl, ap, ◌∙◌, ap₂, arith}
-use Rattle.logic.specs.Trees.{Tree}
+use Rattle.std.proofs.Common.{◌≡◌, ℕ, ◌<◌, List, [], ◌∷◌, ◌++◌, map, length, get_or, sym, ap, ◌∙◌, ap₂, arith}
 use Rattle.logic.specs.declared.Equation.{Equation}
-use Rattle.terms.specs.Sheets.{Row, row, arguments, Compound, Sheet}
-use Rattle.terms.specs.Values.{Solves}
-use Rattle.classes.specs.Classes.{Joins, Respects, Closed, Congruent, Ordered, class, Lowest, Heads, Settled}
+use Rattle.terms.specs.Sheets.{Row, row, arguments, Sheet}
+use Rattle.classes.specs.Classes.{Joins, Closed, class, Lowest, Heads, Settled}
 use Rattle.unify.specs.declared.Mark.{Mark}
 use Rattle.unify.specs.Parents.{Parents, Rooted}
 use Rattle.unify.specs.Merging.{Coarser, Tops, Brought}

@@ -1,15 +1,13 @@
 -- Visits of classes, one after another. Assumes nothing.
-use Rattle.std.proofs.Common.{◌≡◌, ℕ, zero, suc, ◌+◌, ◌<◌, ◌≤◌, Bool, true, false, ◌⊎◌, List, [], ◌∷◌, map, length, get_or, set, sym, refl, ap, ◌∙◌, subst, inl, inr, arith, length-set, get_or-set_other, get_or-set_same}
+use Rattle.std.proofs.Common.{◌≡◌, ℕ, zero, suc, ◌+◌, ◌<◌, ◌≤◌, true, false, ◌⊎◌, List, [], ◌∷◌, map, length, get_or, set, sym, refl, ap, ◌∙◌, subst, inl, inr, arith, length-set, get_or-set_other, get_or-set_same}
 use Rattle.std.proofs.lemmas.Bool.{cases_eq}
 use Rattle.logic.specs.Trees.{Tree}
-use Rattle.groups.specs.Tables.{tally}
 use Rattle.groups.proofs.Counts.{tally_within}
 use Rattle.terms.specs.Sheets.{Row, row, arguments}
-use Rattle.terms.specs.Values.{forest, Solves}
-use Rattle.classes.specs.Classes.{Respects}
+use Rattle.terms.specs.Values.{forest}
 use Rattle.unify.specs.declared.Mark.{Mark}
 use Rattle.unify.specs.declared.Mark.TheVariants as M
-use Rattle.unify.specs.Visits.{mark, fresh, unseen, number, Numbered, Entry, Visited, Onward, Unfit, Visits, size, sizes, Inside}
+use Rattle.unify.specs.Visits.{mark, fresh, unseen, number, Numbered, Entry, Visited, Onward, size, sizes}
 use Rattle.unify.proofs.Lists.{never}
 use Rattle.unify.proofs.Counts.{tally_le, tally_less}
 

@@ -1,7 +1,7 @@
 -- Bringing two terms together. A function gives each term the term that stands for its class. Assumes nothing.
 use Rattle.std.specs.Prelude.{◌≡◌, ℕ, ◌<◌, ◌≤◌, Bool, true, false, cond, ◌&&◌, ◌⊎◌, List, length, ◌==◌, slice_index}
 use Rattle.logic.specs.Trees.{Tree}
-use Rattle.terms.specs.Sheets.{Row, row, arguments, Compound}
+use Rattle.terms.specs.Sheets.{Row, row, Compound}
 use Rattle.terms.specs.Values.{Solves}
 use Rattle.classes.specs.Classes.{Respects, Closed}
 use Rattle.unify.specs.Parents.{Rooted}

@@ -1,7 +1,7 @@
 -- From two terms brought together to the classes of forced-equal terms. Assumes nothing.
 use Rattle.std.specs.Prelude.{◌≡◌, ℕ, ◌<◌, ◌≤◌, ◌↔◌, List, length, ◌≢◌}
 use Rattle.logic.specs.Trees.{Tree}
-use Rattle.terms.specs.Sheets.{Row, row}
+use Rattle.terms.specs.Sheets.{Row}
 use Rattle.terms.specs.Values.{Solves}
 use Rattle.classes.specs.Classes.{Respects, Closed, class, Lowest, Heads}
 use Rattle.unify.specs.declared.Mark.{Mark}
