@@ -1,11 +1,11 @@
 -- The rows of terms as they are read. Assumes nothing.
-use Rattle.std.proofs.Common.{◌≡◌, ℕ, ◌<◌, ◌≤◌, List, map, length, get_or, take, sym, ap, ◌∙◌, arith, length-take, get_or-take}
+use Rattle.std.proofs.Common.{◌≡◌, ℕ, ◌<◌, List, length, get_or, take, sym, ap, ◌∙◌, arith, length-take, get_or-take}
 use Rattle.std.proofs.lemmas.List.{get_or-map}
 use Rattle.terms.specs.Sheets.{Row, row, arguments}
 use Rattle.sheet.specs.Rows.{shape}
 use Rattle.sheet.specs.declared.rows.Term.{Term}
 use Rattle.sheet.specs.declared.rows.Compound.{Compound}
-use Rattle.trees.specs.Terms.{rows, arguments_of}
+use Rattle.trees.specs.Terms.{rows}
 
 -- a term that is read has the row of its number
 pub row_read : (ts : List Term) (a : ℕ) (t : Term) → a < length ts → t ≡ get_or ts a t → row (rows ts) a ≡ shape t

@@ -1,18 +1,18 @@
 -- The turns of a visit, one by one. Assumes nothing.
-use Rattle.std.proofs.Common.{◌≡◌, ℕ, ◌+◌, ◌-◌, ◌<◌, ◌≤◌, Bool, true, false, ◌⊎◌, List, [], ◌∷◌, ◌++◌, map, length, get_or, take, set, sym, refl, ap, ◌∙◌, subst, ap₂, subst₂, inl, inr, arith, length-append, length-set, length-take, get_or-take}
+use Rattle.std.proofs.Common.{◌≡◌, ℕ, ◌+◌, ◌-◌, ◌<◌, ◌≤◌, Bool, true, false, List, [], ◌∷◌, ◌++◌, map, length, get_or, take, set, sym, refl, ap, ◌∙◌, subst, inl, inr, arith, length-append, length-take, get_or-take}
 use Rattle.std.proofs.lemmas.List.{get_or-map, get_or_append_left, get_or_push, length-map, ext_get_or}
 use Rattle.std.proofs.lemmas.Bool.{cases_eq}
 use Rattle.logic.specs.Trees.{Tree}
 use Rattle.terms.specs.Sheets.{Row, row, arguments, Compound as IsCompound, Sheet, Writable}
 use Rattle.terms.specs.Values.{forest, Solves}
-use Rattle.classes.specs.Classes.{class, Lowest, Respects}
+use Rattle.classes.specs.Classes.{class, Lowest}
 use Rattle.unify.specs.declared.Mark.{Mark}
 use Rattle.unify.specs.Merging.{Tops}
-use Rattle.unify.specs.Visits.{mark, unseen, number, Numbered, Entry, Visited, Onward, Unfit, Visits, AllNumbered, size, sizes, Inside}
+use Rattle.unify.specs.Visits.{mark, unseen, number, Numbered, Entry, Onward, Visits, AllNumbered, size, sizes, Inside}
 use Rattle.unify.specs.Settling.{number_of, AllVisited}
 use Rattle.unify.proofs.Lists.{never, over_of}
 use Rattle.unify.proofs.Merges.{never_false}
-use Rattle.unify.proofs.Visits.{mark_here, mark_other, begun_fresh, unseen_less, unseen_within, start_visited, onward_refl, onward_trans, begin_visited, finish_onward, finish_numbered, size_argument}
+use Rattle.unify.proofs.Visits.{mark_other, begun_fresh, unseen_less, unseen_within, start_visited, onward_refl, onward_trans, begin_visited, finish_onward, finish_numbered, size_argument}
 use Rattle.sheet.specs.Rows.{Stands}
 use Rattle.sheet.specs.declared.rows.Term.{Term}
 use Rattle.sheet.specs.declared.rows.Compound.{Compound}

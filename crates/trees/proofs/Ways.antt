@@ -1,14 +1,13 @@
 -- What each way through a merge answers. Assumes nothing.
-use Rattle.std.proofs.Common.{◌≡◌, ℕ, ◌+◌, ◌<◌, ◌≤◌, min, max, Bool, true, false, List, length, get_or, set, sym, refl, ap, ◌∙◌, subst, arith}
-use Rattle.logic.specs.Trees.{Tree}
-use Rattle.terms.specs.Sheets.{Row, row, arguments, Compound}
+use Rattle.std.proofs.Common.{◌≡◌, ℕ, ◌+◌, ◌<◌, ◌≤◌, min, max, Bool, true, false, List, length, get_or, set, sym, ap, ◌∙◌, subst, arith}
+use Rattle.terms.specs.Sheets.{row, Compound}
 use Rattle.unify.specs.Parents.{Parents, Rooted, roots}
 use Rattle.unify.specs.Merging.{Tops, Answer, Agree, alike, joined, Joining}
 use Rattle.unify.proofs.Joins.{join_parents, join_fewer, join_rooted, join_tops, lower_less, of_both, found_joining}
 use Rattle.unify.proofs.Merges.{answer_same, arguments_none, arguments_clash, arguments_next, terms_alone, terms_clash, terms_next}
 use Rattle.sheet.specs.declared.rows.Term.{Term}
 use Rattle.trees.specs.Terms.{rows, arguments_of, Terms}
-use Rattle.trees.specs.Merges.{Climbs, Found, Merges}
+use Rattle.trees.specs.Merges.{Found, Merges}
 
 -- an argument is a term
 pub argument_term : (ts : List Term) → Terms ts → (x i : ℕ) → x < length (rows ts) → i < length (arguments_of ts x) → get_or (arguments_of ts x) i 0 < length (rows ts)

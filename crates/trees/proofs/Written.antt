@@ -1,10 +1,10 @@
 -- The terms that are read of a sheet, and the workspace for them. Assumes nothing.
-use Rattle.std.proofs.Common.{◌≡◌, ℕ, ◌<◌, ◌≤◌, List, map, length, get_or, vec_len, sym, ap, ◌∙◌, subst, arith}
+use Rattle.std.proofs.Common.{◌≡◌, ◌≤◌, List, length, vec_len, sym, ap, ◌∙◌, subst, arith}
 use mathlib.Core.HLevel.{hedberg}
 use mathlib.Core.Logic.{∥∥₁_elim, ∥∥₁_map}
 use native.Mathlib.Decide.{ℕ_discrete}
-use Rattle.std.proofs.lemmas.List.{length-map, get_or-map}
-use Rattle.terms.specs.Sheets.{Row, row, Sheet}
+use Rattle.std.proofs.lemmas.List.{length-map}
+use Rattle.terms.specs.Sheets.{Row, Sheet}
 use Rattle.terms.proofs.Rows.{arguments_lower}
 use Rattle.sheet.specs.Rows.{shape}
 use Rattle.sheet.specs.Models.{arities_of, rows_of, Read}

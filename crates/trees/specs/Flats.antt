@@ -1,5 +1,5 @@
 -- Parents on the way to a flat table. Assumes nothing.
-use Rattle.std.specs.Prelude.{◌≡◌, ℕ, ◌<◌, List, length, get_or}
+use Rattle.std.specs.Prelude.{◌≡◌, ℕ, ◌<◌, List}
 use Rattle.classes.specs.Classes.{class}
 use Rattle.unify.specs.Parents.{Parents, Rooted}
 

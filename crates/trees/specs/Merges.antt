@@ -1,5 +1,5 @@
 -- What the calls that bring terms together answer and leave behind. Assumes nothing.
-use Rattle.std.specs.Prelude.{◌≡◌, ℕ, ◌<◌, ◌≤◌, Bool, List, length, slice_index, slice_index_or}
+use Rattle.std.specs.Prelude.{◌≡◌, ℕ, ◌≤◌, Bool, List, length, slice_index, slice_index_or}
 use Rattle.logic.specs.Trees.{Tree}
 use Rattle.unify.specs.Parents.{Parents, Rooted, roots}
 use Rattle.unify.specs.Merging.{Tops, Answer}

@@ -1,5 +1,5 @@
 -- What the logic of trees has: the theory of its sheet, its standing equations, and their tables. Assumes nothing.
-use Rattle.std.specs.Prelude.{◌≡◌, ℕ, ◌+◌, ◌*◌, ◌≤◌, cond, List, [], ◌∷◌, ◌++◌, length, vec_items, vec_len, nat_lt, slice_index}
+use Rattle.std.specs.Prelude.{◌≡◌, ℕ, ◌+◌, ◌*◌, cond, List, [], ◌∷◌, ◌++◌, length, vec_items, vec_len, nat_lt, slice_index}
 use Rattle.logic.specs.Trees.{World}
 use Rattle.logic.specs.Theories.{Theory}
 use Rattle.logic.specs.Tellings.{Told, Telling}

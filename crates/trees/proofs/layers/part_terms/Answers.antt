@@ -1,7 +1,5 @@
-use Rattle.std.proofs.Common.{◌≡◌, ℕ, ◌<◌, ◌≢◌, length, get_or, sym, ap, ◌∙◌, arith, below_more}
+use Rattle.std.proofs.Common.{◌≢◌, length, sym, ap, ◌∙◌, arith, below_more}
 use Rattle.std.proofs.lemmas.List.{get_or-set_same, get_or-set_other}
-use Rattle.terms.specs.Sheets.{row}
-use Rattle.trees.specs.Terms.{rows}
 use Rattle.trees.specs.Layers.{head_alone}
 use Rattle.trees.proofs.Rows.{row_read}
 use Rattle.trees.proofs.layers.part_terms.Goals as goal

@@ -1,4 +1,4 @@
-use Rattle.std.proofs.Common.{◌≡◌, length}
+use Rattle.std.proofs.Common.{length}
 use Rattle.trees.specs.Terms.{rows}
 use Rattle.trees.specs.Layers.{Alone}
 use Rattle.trees.proofs.layers.part_terms.Given as goal

@@ -1,4 +1,4 @@
-use Rattle.std.proofs.Common.{ℕ, List, sym, ◌∙◌, subst, arith}
+use Rattle.std.proofs.Common.{ℕ, List, sym, subst, arith}
 use Rattle.terms.specs.Sheets.{Sheet}
 use Rattle.sheet.specs.Models.{rows_of}
 use Rattle.trees.proofs.Written.{many}

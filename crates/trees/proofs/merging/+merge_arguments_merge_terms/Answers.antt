@@ -1,4 +1,4 @@
-use Rattle.std.proofs.Common.{◌≡◌, ℕ, ◌<◌, true, false, List, length, get_or, sym, refl, ap, ◌∙◌, subst, subst₂, arith}
+use Rattle.std.proofs.Common.{◌≡◌, ℕ, ◌<◌, true, false, List, length, get_or, sym, ◌∙◌, subst, subst₂, arith}
 use Rattle.terms.specs.Sheets.{row}
 use Rattle.unify.specs.Parents.{Parents, roots}
 use Rattle.unify.specs.Merging.{Agree}

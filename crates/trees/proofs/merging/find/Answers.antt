@@ -1,4 +1,4 @@
-use Rattle.std.proofs.Common.{◌≡◌, ◌<◌, length, get_or, sym, ◌∙◌, arith}
+use Rattle.std.proofs.Common.{◌<◌, length, get_or, ◌∙◌, arith}
 use Rattle.unify.proofs.Finds.{up_less, up_parents, up_kept, up_roots, up_rooted}
 use Rattle.trees.proofs.merging.find.Goals as goal
 

@@ -1,5 +1,4 @@
-use Rattle.std.proofs.Common.{◌≡◌, ℕ, ◌≤◌, length, get_or}
-use Rattle.unify.specs.Parents.{Parents, Rooted, roots}
+use Rattle.std.proofs.Common.{length}
 use Rattle.trees.specs.Merges.{Climbs}
 use Rattle.trees.proofs.merging.find.Given as goal
 

@@ -1,5 +1,4 @@
-use Rattle.std.proofs.Common.{◌≡◌, ℕ, ◌<◌, length, get_or, sym, ap, ◌∙◌, inl, inr, arith}
-use Rattle.std.proofs.lemmas.Bool.{cases_eq}
+use Rattle.std.proofs.Common.{◌<◌, length, arith}
 use Rattle.unify.proofs.Finds.{up_parents, up_rooted, up_flat}
 use Rattle.trees.proofs.merging.flatten.Goals as goal
 

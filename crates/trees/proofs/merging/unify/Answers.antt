@@ -1,4 +1,4 @@
-use Rattle.std.proofs.Common.{◌≡◌, ℕ, ◌<◌, length, sym, ap, ◌∙◌, subst, arith}
+use Rattle.std.proofs.Common.{◌≡◌, ℕ, length, sym, ◌∙◌, subst, arith}
 use Rattle.classes.specs.Classes.{class}
 use Rattle.unify.specs.Parents.{Parents, Rooted}
 use Rattle.unify.proofs.Lists.{never}

@@ -1,4 +1,4 @@
-use Rattle.std.proofs.Common.{◌≡◌, ℕ, List, sym, subst, arith}
+use Rattle.std.proofs.Common.{ℕ, List, sym, subst, arith}
 use Rattle.terms.specs.Sheets.{Sheet}
 use Rattle.trees.specs.Terms.{rows}
 use Rattle.trees.proofs.settling.bring.Goals as goal

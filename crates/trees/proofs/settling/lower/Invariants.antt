@@ -1,4 +1,3 @@
-use Rattle.std.proofs.Common.{length}
 use Rattle.unify.specs.Settling.{number_of}
 use Rattle.trees.specs.Lowers.{Lowering}
 use Rattle.trees.proofs.settling.lower.Given as goal

@@ -1,6 +1,6 @@
-use Rattle.std.proofs.Common.{◌≡◌, ℕ, ◌<◌, List, length, get_or, sym, refl, ap, ◌∙◌, subst, arith}
+use Rattle.std.proofs.Common.{◌≡◌, ℕ, length, refl, ◌∙◌, subst, arith}
 use Rattle.classes.specs.Classes.{class}
-use Rattle.unify.specs.Settling.{Unified, AllVisited, Lows, number_of}
+use Rattle.unify.specs.Settling.{Lows, number_of}
 use Rattle.unify.proofs.Lists.{never}
 use Rattle.unify.proofs.Merges.{never_false}
 use Rattle.unify.proofs.Settles.{settled_next, unfit_refuted, numbers_below}

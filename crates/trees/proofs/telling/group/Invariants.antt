@@ -1,4 +1,4 @@
-use Rattle.std.proofs.Common.{◌≡◌, ℕ, suc, ◌≤◌, ◌&&◌, List, length}
+use Rattle.std.proofs.Common.{◌≡◌, suc, ◌≤◌, ◌&&◌, List, length}
 use Rattle.groups.specs.Tables.{leads, tally}
 use Rattle.terms.specs.Sheets.{Row}
 use Rattle.classes.specs.Worlds.{unbound}

@@ -1,11 +1,10 @@
-use Rattle.std.proofs.Common.{◌≡◌, ◌+◌, List, length, sym, refl, ap, ◌∙◌, subst₂, arith}
+use Rattle.std.proofs.Common.{◌+◌, List, sym, refl, ap, ◌∙◌, subst₂, arith}
 use Rattle.unify.proofs.Lists.{never}
 use Rattle.unify.proofs.Merges.{never_false}
 use Rattle.unify.specs.declared.Mark.{Mark}
 use Rattle.sheet.specs.Models.{arities_of, rows_of}
 use Rattle.sheet.specs.declared.writing.OpenSheet.{OpenSheet}
 use Rattle.trees.specs.Places.{Reached}
-use Rattle.trees.specs.Terms.{rows}
 use Rattle.trees.proofs.Turns.{reached_start, reached_inside, reached_skip, reached_visit, reached_all}
 use Rattle.trees.proofs.visiting.visit_all.Goals as goal
 use Rattle.trees.proofs.visiting.visit_all.Goals.{then-classes-class+else-not-visit, else-classes-class}

@@ -1,5 +1,5 @@
-use Rattle.std.proofs.Common.{◌≡◌, ℕ, ◌-◌, ◌<◌, List, map, length, get_or, take, sym, refl, ap, ◌∙◌, subst, ap₂, arith}
-use Rattle.terms.specs.Sheets.{Row, row, arguments, Writable}
+use Rattle.std.proofs.Common.{ℕ, ◌<◌, List, map, length, take, sym, ap, ◌∙◌, subst, ap₂, arith}
+use Rattle.terms.specs.Sheets.{Row, row, Writable}
 use Rattle.unify.specs.Settling.{number_of}
 use Rattle.sheet.specs.Models.{arities_of, rows_of}
 use Rattle.trees.specs.Terms.{rows, arguments_of}

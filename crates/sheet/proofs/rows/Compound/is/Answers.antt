@@ -1,6 +1,6 @@
-use Rattle.std.proofs.Common.{◌≡◌, ℕ, true, List, take, Decides, sym, ◌∙◌, subst, ap₂}
+use Rattle.std.proofs.Common.{◌≡◌, ℕ, List, take, Decides, subst, ap₂}
 use Rattle.std.proofs.lemmas.Slice.Eq.{slice_eq-Decides}
-use Rattle.terms.specs.Sheets.{Row, arguments}
+use Rattle.terms.specs.Sheets.{Row}
 use Rattle.sheet.proofs.rows.Compound.is.Goals as goal
 use Rattle.std.proofs.lemmas.Bool.Decides.{Decides-eqb}
 

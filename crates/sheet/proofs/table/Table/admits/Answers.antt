@@ -1,4 +1,4 @@
-use Rattle.std.proofs.Common.{◌≡◌, ◌<◌, map, length, get_or, vec_items, refl, ◌∙◌, inl, inr, arith}
+use Rattle.std.proofs.Common.{◌≡◌, ◌<◌, length, get_or, vec_items, refl, ◌∙◌, inr, arith}
 use Rattle.std.proofs.lemmas.List.{get_or_read, length-map}
 use Rattle.sheet.specs.Rows.{shape}
 use Rattle.sheet.proofs.table.Table.admits.Goals as goal

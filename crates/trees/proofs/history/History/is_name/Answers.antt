@@ -1,4 +1,4 @@
-use Rattle.std.proofs.Common.{◌≡◌, List, sym, ap, ◌∙◌, arith}
+use Rattle.std.proofs.Common.{List, sym, ap, ◌∙◌, arith}
 use Rattle.terms.specs.Sheets.{Row, row}
 use Rattle.trees.proofs.Written.{many}
 use Rattle.trees.proofs.history.History.is_name.Goals as goal

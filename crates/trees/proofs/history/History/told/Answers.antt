@@ -1,7 +1,7 @@
 use Rattle.std.proofs.Common.{◌≡◌, ℕ, ◌≤◌, List, length, sym, ap, ◌∙◌, subst, subst₂, arith}
 use mathlib.Core.Logic.{∥∥₁_elim}
 use native.Mathlib.Bridge.{le_prop}
-use Rattle.logic.specs.Tellings.{Told, kind_number}
+use Rattle.logic.specs.Tellings.{kind_number}
 use Rattle.logic.specs.Tellings.Told.{told}
 use Rattle.terms.specs.Trees.{TreeTold}
 use Rattle.classes.specs.Classes.{Lowest}

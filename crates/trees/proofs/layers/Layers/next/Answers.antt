@@ -1,4 +1,4 @@
-use Rattle.std.proofs.Common.{◌≡◌, ℕ, List, ◌++◌, length, drop, vec_items, sym, refl, ◌∙◌, subst₂, take_at}
+use Rattle.std.proofs.Common.{ℕ, List, length, drop, vec_items, sym, refl, ◌∙◌, subst₂, take_at}
 use Rattle.trees.specs.Terms.{rows}
 use Rattle.trees.specs.Layers.{Nexts}
 use Rattle.trees.proofs.layers.Layers.next.Goals as goal
