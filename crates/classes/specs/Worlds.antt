@@ -71,4 +71,4 @@ module _ (rs : List Row) (ls hs : List ℕ) where
 
 -- The told world of a settled table.
 abbrev pub told_world : (ar : List ℕ) (rs : List Row) (es : List Equation) (ls hs : List ℕ) → ∥ Sheet ar rs ∥₁ → ∥ Settled rs es ls hs ∥₁ → World
-told_world ar rs es ls hs sheet settled = record { tree = told_at rs ls hs; ground = told_ground rs ls hs ar sheet }
+told_world ar rs es ls hs sheet settled = record { tree = told_at rs ls hs; grounded = told_ground rs ls hs ar sheet }

@@ -51,7 +51,7 @@ tower (suc h) = step (tower h)
 -- A world gives one ground tree to each whole number.
 pub record World : Type 0 where
   pub tree : ℕ → Tree
-  pub ground : (n : ℕ) → Ground (tree n)
+  pub grounded : (n : ℕ) → Ground (tree n)
 
 -- A tower is ground.
 pub tower_ground : (h : ℕ) → Ground (tower h)
@@ -61,4 +61,4 @@ tower_ground (suc h) =
 
 -- The world of towers of these heights.
 abbrev pub towers : (ℕ → ℕ) → World
-towers h = record { tree = λ n. tower (h n); ground = λ n. tower_ground (h n) }
+towers h = record { tree = λ n. tower (h n); grounded = λ n. tower_ground (h n) }

@@ -59,11 +59,11 @@ share s (e ∷ es) = keep s (part_of e) (share s es)
 
 -- A side of a world: the trees of that side's numbers.
 abbrev pub world_of : Side → World → World
-world_of s w = record { tree = λ n. w.tree (doubled s n); ground = λ n. w.ground (doubled s n) }
+world_of s w = record { tree = λ n. w.tree (doubled s n); grounded = λ n. w.grounded (doubled s n) }
 
 -- The world that gives to n the tree that the world of side s n gives to h n.
 abbrev pub woven : (Side → World) → (ℕ → Side) → (ℕ → ℕ) → World
-woven ws s h = record { tree = λ n. (ws (s n)).tree (h n); ground = λ n. (ws (s n)).ground (h n) }
+woven ws s h = record { tree = λ n. (ws (s n)).tree (h n); grounded = λ n. (ws (s n)).grounded (h n) }
 
 -- The world with these two sides.
 abbrev pub joined : (Side → World) → World

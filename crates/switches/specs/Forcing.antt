@@ -1,4 +1,4 @@
--- A switch is forced exactly when an equation of it stands, and the world that told_by just those is a freest world.
+-- A switch is forced exactly when an equation of it stands, and the world told by just those is a freest world.
 -- Assumes nothing.
 use Rattle.std.specs.Prelude.{◌≡◌, ℕ, zero, suc, ◌<◌, ◌≤◌, Bool, true, false, cond, List, [], ◌∷◌, length, ◌==◌, slice_index, refl}
 use Rattle.std.proofs.Common.{sym, ap, subst, ◌∙◌, inl, inr, arith}
