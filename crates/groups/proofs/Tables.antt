@@ -55,9 +55,20 @@ module _ (N : ℕ) (Joined : ℕ → ℕ → Type 0) (ls : List ℕ) (table : Ta
           number = refl;
         }
 
+  -- where all numbers below N are grouped, the test is that a number leads
+  every : (k : ℕ) → k < N → Decides (leads ls k) ((leads ls k ≡ true) × (k < N))
+  every k h = (λ l. (l, h), λ p. p.0)
+
+  -- those that lead are the lowest members of their groups, and no others are
+  leads_lowest : (m : ℕ) → m < N → leads ls m ≡ true → Lowest (λ k. k < N) Joined m
+  leads_lowest = picked_lowest (λ k. k < N) (leads ls) (λ k h. h) entry_below every
+
+  lowest_leads : (m : ℕ) → Lowest (λ k. k < N) Joined m → leads ls m ≡ true
+  lowest_leads = lowest_picked (λ k. k < N) (leads ls) (λ k h. h) entry_below every
+
   -- each number below N is in the group of its number by the table
   pub group_numbered : (n : ℕ) → n < N → GroupNumber (λ k. k < N) Joined n (group_of ls n)
-  group_numbered = group_numbered_in (λ k. k < N) (leads ls) (λ k h. h) entry_below (λ k h. (λ l. (l, h), λ p. p.0))
+  group_numbered = group_numbered_in (λ k. k < N) (leads ls) (λ k h. h) entry_below every
 
   -- joined numbers have one group number, and others have two
   pub group_agrees : (i j : ℕ) → i < N → j < N → group_of ls i ≡ group_of ls j → get_or ls i 0 ≡ get_or ls j 0
