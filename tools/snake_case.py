@@ -5,7 +5,7 @@ usage: python3 tools/snake_case.py [FOLDER]     once, in a tree that has the old
 
 It goes over the clauses, definitions and proofs below FOLDER/crates, the must-fail edits and the documents. Functions of
 src/, strings and the names of files stay as they are. Labels that the check makes (`loop-i-preserved`) keep their dashes;
-within them the name of a function has the spelling of the source (`push-reserved-requires` was `push_reserved` there).
+within them a function has its name of the source, so that `push-reserved-requires` becomes `push_reserved-requires`.
 """
 
 import os

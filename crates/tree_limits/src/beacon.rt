@@ -1,6 +1,6 @@
 // A telling logic of an unusual make: it has no equation, and tells one term of any number it was given.
 
-ghost use Rattle.std.specs.Prelude.{[]};
+ghost use Rattle.std.specs.Prelude.{◌≡◌, []};
 ghost use Rattle.tree_limits.specs.Beacons.{nothing, one_term, all_base};
 ghost use Rattle.std.proofs.lemmas.Bool.{false≢true};
 ghost use Rattle.std.proofs.Common.{rules};
@@ -13,7 +13,10 @@ pub struct Beacon {
 }
 
 impl Beacon {
-    pub fn new(term: u32) -> Beacon {
+    // The logic that tells this term.
+    pub fn new(term: u32) -> Beacon
+        ensures { result.term ≡ term }
+    {
         Beacon { term }
     }
 }
