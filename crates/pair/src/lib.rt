@@ -4,7 +4,7 @@
 
 #![tactic(auto)]
 
-ghost use Rattle.std.specs.Prelude.{IfOk};
+ghost use Rattle.std.specs.Prelude.{◌≡◌, ◌<◌, [], ◌∷◌, ◌++◌, length, IfOk};
 ghost use Rattle.sides.specs.Sides.{joined};
 ghost use Rattle.sides.specs.Pairs.{paired};
 ghost use Rattle.sides.specs.Tellings.{paired_telling};
@@ -42,6 +42,14 @@ impl<A: Logic + Drop, B: Logic + Drop> Pair<A, B> {
         both.back(0, 0);
         Ok(Pair { both, standing })
     }
+}
+
+// Notes an equation that a side has taken, as the newest.
+fn note<const N: usize>(standing: &mut Bounded<Equation, N>, e: Equation)
+    requires { length standing.old.vec.items < N }
+    ensures { standing.new.vec.items ≡ standing.old.vec.items ++ (e ∷ []) }
+{
+    standing.push(e).unwrap();
 }
 
 impl<A: Logic, B: Logic> Logic for Pair<A, B> {
@@ -91,7 +99,7 @@ impl<A: Logic, B: Logic> Logic for Pair<A, B> {
         }
         let assumed = self.both.assume(side, halved)?;
         if let Assumed::Taken = assumed {
-            self.standing.push(e).unwrap();
+            note(&mut self.standing, e);
         }
         Ok(assumed)
     }

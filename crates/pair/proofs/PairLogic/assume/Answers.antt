@@ -1,4 +1,4 @@
-use Rattle.std.proofs.Common.{◌≡◌, ◌<◌, [], ◌∷◌, ◌++◌, rules, tests, length, Ok, Err, vec_items, refl, ap, arith}
+use Rattle.std.proofs.Common.{◌<◌, length, Ok, Err, vec_items, refl, ap, arith}
 use Rattle.std.proofs.lemmas.Bool.Decides.{nat_tests}
 use Rattle.logic.specs.Refusals.{refusal_number}
 use Rattle.logic.specs.Answers.{outcome_of}
@@ -28,12 +28,11 @@ returns-in-Taken g c =
     let s = c.args.self.now in
     let z = c.assume.new.self in
     let less : length (vec_items s.standing.vec) < 256 = grind (arith, nat_tests, s.standing.few, s.standing.vec.ok.0) in
-    let pushed : vec_items c.push.new.self.vec ≡ vec_items s.standing.vec ++ (c.args.e ∷ []) = search (rules, tests) in
     let answer = pair_takes (by_side a.theory b.theory s.both) (by_side a.lawful b.lawful s.both) (by_side a.stands b.stands s.both) (vec_items s.standing.vec)
     (each_side _ (g.met.A.Logic.freest s.both.first) (g.met.B.Logic.freest s.both.second)) c.args.e c.in-Some.side c.in-Some.halved c.in-Some.ensures
     (by_side a.theory b.theory z) (by_side a.telling b.telling s.both) (by_side a.telling b.telling z) (by_side a.lawful b.lawful z) (by_side a.stands b.stands z)
     c.if-not-has.ensures less (outcome_of (Ok c.in_ok-assumed.assumed)) c.in_ok-assumed.ensures
-    (ap (λ x. outcome_of (Ok x)) {x = c.in_ok-assumed.assumed} c.in-Taken.is) (vec_items c.push.new.self.vec) pushed in
+    (ap (λ x. outcome_of (Ok x)) {x = c.in_ok-assumed.assumed} c.in-Taken.is) (vec_items c.note.new.standing.vec) c.note.ensures in
     record { keeps = λ l. (answer l).0; assumes = λ l. (answer l).1 }
 
 pub returns-in_default-assumed : goal.returns-in_default-assumed
