@@ -4,7 +4,8 @@
 
 #![tactic(auto)]
 
-use logic::{Assumed, Equation, Kind, Logic, Refusal, TellingLogic};
+use logic::{Assumed, Equation, Logic, Refusal, TellingLogic};
+use std::collections::BTreeSet;
 use std::io;
 use switches::Switches;
 use tags::Tags;
@@ -21,8 +22,8 @@ enum Sighting {
 struct Bench {
     tags: Tags,
     switches: Switches,
-    seen_tags: Vec<u16>,
-    seen_switches: Vec<u16>,
+    seen_tags: BTreeSet<u16>,
+    seen_switches: BTreeSet<u16>,
 }
 
 // The sighting of a line, if it has the form of one.
@@ -45,17 +46,17 @@ fn read_sighting(line: &str) -> Option<Sighting> {
 fn take(bench: &mut Bench, seen: Sighting) -> anyhow::Result<Result<Assumed, Refusal>> {
     match seen {
         Sighting::Same(left, right) => {
-            let answer = bench.tags.assume(Equation { left, right });
+            let answer = bench.tags.assume(Equation::new(left, right));
             if answer.is_ok() {
-                bench.seen_tags.push(left)?;
-                bench.seen_tags.push(right)?;
+                bench.seen_tags.insert(left)?;
+                bench.seen_tags.insert(right)?;
             }
             Ok(answer)
         }
         Sighting::On(left) => {
-            let answer = bench.switches.assume(Equation { left, right: 0 });
+            let answer = bench.switches.assume(Equation::new(left, 0));
             if answer.is_ok() {
-                bench.seen_switches.push(left)?;
+                bench.seen_switches.insert(left)?;
             }
             Ok(answer)
         }
@@ -64,15 +65,14 @@ fn take(bench: &mut Bench, seen: Sighting) -> anyhow::Result<Result<Assumed, Ref
 
 // Reads the log; a line that is no sighting, or that is refused, is named and passed over.
 fn read_log(rt: &HostRuntime, bench: &mut Bench) -> anyhow::Result<()> {
-    let mut number = 0usize;
-    for line in rt.lines(rt.alloc()) {
+    for (before, line) in rt.lines(rt.alloc()).enumerate() {
         let line = line?;
-        number = number.saturating_add(1);
+        let number = before.saturating_add(1);
         match read_sighting(line.as_str()) {
             None => println!(rt; "line {number}: no sighting")?,
             Some(seen) => {
                 if let Err(refusal) = take(bench, seen)? {
-                    println!(rt; "line {number}: refused {}", refusal.number())?;
+                    println!(rt; "line {number}: {refusal}")?;
                 }
             }
         }
@@ -81,14 +81,10 @@ fn read_log(rt: &HostRuntime, bench: &mut Bench) -> anyhow::Result<()> {
 }
 
 // Each pair of the numbers that is forced equal.
-fn print_forced<L: Logic>(rt: &HostRuntime, logic: &L, numbers: &[u16]) -> io::Result<()> {
-    for (i, left) in numbers.iter().enumerate() {
-        for right in numbers.iter().skip(i).skip(1) {
-            let pair = Equation {
-                left: *left,
-                right: *right,
-            };
-            if logic.forced(pair) {
+fn print_forced<L: Logic>(rt: &HostRuntime, logic: &L, numbers: &BTreeSet<u16>) -> io::Result<()> {
+    for left in numbers.iter() {
+        for right in numbers.iter().filter(|right| left < *right) {
+            if logic.forced(Equation::new(*left, *right)) {
                 println!(rt; "forced {left} = {right}")?;
             }
         }
@@ -101,13 +97,12 @@ fn print_example<L: TellingLogic>(
     rt: &HostRuntime,
     logic: &L,
     what: &str,
-    numbers: &[u16],
+    numbers: &BTreeSet<u16>,
 ) -> io::Result<()> {
-    for number in numbers {
+    for number in numbers.iter() {
         match logic.tell(*number) {
-            Ok((Kind::Tower, height)) => println!(rt; "{what} {number} up {height}")?,
-            Ok((Kind::Term, term)) => println!(rt; "{what} {number} is term {term}")?,
-            Err(refusal) => println!(rt; "{what} {number} refused {}", refusal.number())?,
+            Ok((kind, told)) => println!(rt; "{what} {number} {kind} {told}")?,
+            Err(refusal) => println!(rt; "{what} {number} {refusal}")?,
         }
     }
     Ok(())
@@ -118,14 +113,10 @@ fn main(rt: HostRuntime) -> anyhow::Result<()> {
     let mut bench = Bench {
         tags: Tags::new(heap)?,
         switches: Switches::new(heap)?,
-        seen_tags: Vec::new(heap),
-        seen_switches: Vec::new(heap),
+        seen_tags: BTreeSet::new(heap),
+        seen_switches: BTreeSet::new(heap),
     };
     read_log(&rt, &mut bench)?;
-    bench.seen_tags.sort_unstable();
-    bench.seen_tags.dedup();
-    bench.seen_switches.sort_unstable();
-    bench.seen_switches.dedup();
     print_forced(&rt, &bench.tags, &bench.seen_tags)?;
     print_example(&rt, &bench.tags, "tag", &bench.seen_tags)?;
     print_example(&rt, &bench.switches, "switch", &bench.seen_switches)?;
