@@ -4,6 +4,8 @@ ghost use Rattle.std.specs.Prelude.{◌≡◌, ℕ, ◌<◌, length, ◌==◌, s
 ghost use Rattle.groups.specs.Tables.{group_of};
 ghost use Rattle.tags.specs.Partitions.{Lowests, joining};
 
+use std::array;
+
 // How many tags there are.
 pub(crate) const TAGS: u16 = 1024;
 
@@ -20,11 +22,9 @@ impl Partition {
     pub(crate) fn apart() -> Partition
         ensures { (i : ℕ) → i < 1024 → slice_index result.lowest i ≡ i }
     {
-        let mut lowest = [0; 1024];
-        for tag in 0..TAGS {
-            lowest[tag as usize] = tag;
+        Partition {
+            lowest: array::from_fn(|tag| tag as u16),
         }
-        Partition { lowest }
     }
 
     // The partition with the groups of two tags made one.
@@ -56,12 +56,8 @@ impl Partition {
         requires { tag < 1024 }
         ensures { result ≡ group_of self.now.lowest tag }
     {
-        let mut number = 1;
-        for other in 0..self.lowest[tag as usize] {
-            if self.lowest[other as usize] == other {
-                number += 1;
-            }
-        }
-        number
+        let leads = |other: &u16| self.lowest[*other as usize] == *other;
+        let before = (0..self.lowest[tag as usize]).filter(leads).count();
+        1 + before as u32
     }
 }
