@@ -30,21 +30,12 @@ impl History {
         ensures { IfOk result (λ h. h.standing.items ≡ []) }
     {
         let standing = Vec::with_capacity(heap, ROOM)?;
-        let partitions = Vec::with_capacity(heap, ROOM + 1)?;
-        Ok(History::first(standing, partitions))
-    }
-
-    // The same, in memory that is at hand.
-    fn first(standing: Vec<Equation>, mut partitions: Vec<Partition>) -> History
-        requires empty { (standing.items ≡ []) × (partitions.items ≡ []) }
-        requires room { (256 ≤ vec_capacity standing) × (257 ≤ vec_capacity partitions) }
-        ensures { result.standing.items ≡ [] }
-    {
+        let mut partitions = Vec::with_capacity(heap, ROOM + 1)?;
         partitions.push_reserved(Partition::apart());
-        History {
+        Ok(History {
             standing,
             partitions,
-        }
+        })
     }
 
     // How many equations stand.

@@ -5,11 +5,9 @@
 
 ghost use Rattle.std.specs.Prelude.{◌≡◌, [], IfOk};
 ghost use Rattle.tags.specs.Tags.{tags, tag_telling};
-ghost use Rattle.tags.specs.Partitions.{told_by};
-ghost use Rattle.tags.specs.Layers.{newest};
-ghost use Rattle.std.proofs.Common.{arith, rules};
-ghost use Rattle.tags.specs.LayersLemmas.{newest_exact, newest_table};
-ghost use Rattle.tags.specs.Tells.{tag_freest, tag_named, tag_single};
+ghost use Rattle.std.proofs.Common.{rules};
+ghost use Rattle.tags.specs.Tells.{tag_single};
+ghost use Rattle.tags.specs.Histories.{told_in, history_freest, history_named};
 
 use history::History;
 use logic::{Assumed, Equation, Kind, Logic, ROOM, Refusal, TellingLogic};
@@ -47,12 +45,7 @@ impl Logic for Tags {
 
     ghost few = { Prim.search rules };
 
-    ghost freest = { λ s good.
-        let es = s.history.standing.items in
-        let ps = s.history.partitions.items in (
-          told_by (newest es ps),
-          tag_freest es (newest es ps) (newest_table es ps (omega (arith, s.history.one_more, s.history.standing.ok.0, s.history.partitions.ok.0)) s.history.layers) (newest_exact es ps s.history.layers),
-        ) };
+    ghost freest = { λ s good. (told_in s.history, history_freest s.history) };
 
     fn has(&self, e: Equation) -> bool {
         e.left < TAGS && e.right < TAGS
@@ -83,17 +76,11 @@ impl Logic for Tags {
 }
 
 impl TellingLogic for Tags {
-    ghost told = { λ s. told_by (newest s.history.standing.items s.history.partitions.items) };
+    ghost told = { λ s. told_in s.history };
 
-    ghost free = { λ s good.
-        let es = s.history.standing.items in
-        let ps = s.history.partitions.items in
-        tag_freest es (newest es ps) (newest_table es ps (omega (arith, s.history.one_more, s.history.standing.ok.0, s.history.partitions.ok.0)) s.history.layers) (newest_exact es ps s.history.layers) };
+    ghost free = { λ s good. history_freest s.history };
 
-    ghost named = { λ s n a good.
-        let es = s.history.standing.items in
-        let ps = s.history.partitions.items in
-        tag_named es (newest es ps) (newest_table es ps (omega (arith, s.history.one_more, s.history.standing.ok.0, s.history.partitions.ok.0)) s.history.layers) n a };
+    ghost named = { λ s n a good. history_named s.history n a };
 
     ghost single = { λ s n a b good. tag_single s.history.standing.items n a b };
 

@@ -1,10 +1,19 @@
-use Rattle.std.proofs.Common.{◌≡◌, ◌+◌, List, length, vec_items, sym, subst₂, arith}
+use Rattle.std.proofs.Common.{◌≡◌, ◌+◌, List, length, vec_items, sym, subst₂, refl, arith}
+use Rattle.logic.specs.Trees.{towers}
+use Rattle.logic.specs.Theories.{Clash}
 use Rattle.logic.specs.declared.Equation.{Equation}
+use Rattle.logic.proofs.Trues.{all_each}
+use Rattle.tags.specs.Tags.{tags, agree}
 use Rattle.tags.specs.Layers.{Layers}
+use Rattle.tags.specs.Tells.{between}
+use Rattle.tags.specs.Histories.{history_layers}
 use Rattle.tags.specs.declared.partition.Partition.{Partition}
-use Rattle.tags.specs.LayersLemmas.{layers_taken}
-use Rattle.tags.specs.Tells.{between, no_clash}
+use Rattle.tags.proofs.Layers.{layers_push}
 use Rattle.tags.proofs.history.History.push.Goals as goal
+
+-- the world in which all trees are one makes every equation true
+no_clash : (es : List Equation) (e : Equation) → Clash tags es e → ⊥
+no_clash es e clash = clash (towers (λ n. 0)) tt (all_each tags (towers (λ n. 0)) es (agree 0 0) (λ k h. refl)) refl
 
 pub invariant_of-self : goal.invariant_of-self
 invariant_of-self c =
@@ -17,9 +26,9 @@ invariant_of-self c =
       space = omega (arith, self.space, c.push_reserved.ensures.capacity);
       few = omega (arith, self.few, c.push_reserved-2.ensures.len, c.requires.1, self.standing.ok.0);
       one_more = omega (arith, self.one_more, c.push_reserved-2.ensures.len, c.push_reserved.ensures.len);
-      layers = subst₂ (λ (fs : List Equation) (qs : List Partition). ∥ Layers fs qs ∥₁) (sym c.push_reserved-2.ensures.items) (sym c.push_reserved.ensures.items)
-          (layers_taken es ps c.args.e c.groups.result.now.lowest c.joined-joined.result long c.groups.result.now.long c.groups.ensures.newest
-          c.joined-joined.ensures s.0 s.1 self.layers);
+      layers = ∣ subst₂ (λ (fs : List Equation) (qs : List Partition). Layers fs qs) (sym c.push_reserved-2.ensures.items) (sym c.push_reserved.ensures.items)
+          (layers_push es ps c.args.e c.groups.result.now.lowest c.joined-joined.result long c.groups.result.now.long c.groups.ensures.newest
+          c.joined-joined.ensures s.0 s.1 (history_layers self)) ∣₁;
     }
 
 pub returns : goal.returns

@@ -1,9 +1,9 @@
 use Rattle.std.proofs.Common.{◌≡◌, ◌+◌, List, length, take, vec_items, sym, ap, subst₂, arith}
-use mathlib.Core.Logic.{∥∥₁_map}
 use Rattle.logic.specs.declared.Equation.{Equation}
 use Rattle.tags.specs.Layers.{Layers}
+use Rattle.tags.specs.Histories.{history_layers}
 use Rattle.tags.specs.declared.partition.Partition.{Partition}
-use Rattle.tags.specs.LayersLemmas.{layers_back}
+use Rattle.tags.proofs.Layers.{layers_back}
 use Rattle.tags.proofs.history.History.truncate.Goals as goal
 
 pub invariant_of-self : goal.invariant_of-self
@@ -17,6 +17,6 @@ invariant_of-self c =
       space = omega (arith, self.space, c.truncate-2.ensures.capacity);
       few = omega (arith, self.few, c.truncate.ensures.len);
       one_more = omega (arith, self.one_more, c.truncate.ensures.len, c.truncate-2.ensures.len, c.len.ensures);
-      layers = subst₂ (λ (fs : List Equation) (qs : List Partition). ∥ Layers fs qs ∥₁) (sym c.truncate.ensures.items) (sym c.truncate-2.ensures.items)
-          (∥∥₁_map self.layers (layers_back es ps c.args.n (c.len.result + 1) kept));
+      layers = ∣ subst₂ (λ (fs : List Equation) (qs : List Partition). Layers fs qs) (sym c.truncate.ensures.items) (sym c.truncate-2.ensures.items)
+          (layers_back es ps c.args.n (c.len.result + 1) kept (history_layers self)) ∣₁;
     }

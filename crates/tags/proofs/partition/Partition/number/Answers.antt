@@ -26,6 +26,6 @@ returns c =
     let below = range_with_len 0 lead in
     let counted : c.count-before.result ≡ length (filter (leads ls) below)
     = count_from_yields_List c.filter.result c.count-before.result c.count-before.ensures.ran
-        (YieldsList-from_filter _ (leads ls) (YieldsList-at c.filter.ensures.source (YieldsList-from_range 0 lead lead refl (omega arith)))
-        c.filter.ensures.closure (λ x r q k. search (rules, tests))) in
+    (YieldsList-from_filter _ (leads ls) (YieldsList-at c.filter.ensures.source (YieldsList-from_range 0 lead lead refl (omega arith)))
+    c.filter.ensures.closure (λ x r q k. search (rules, tests))) in
     omega (arith, counted, length-filter (leads ls) below, tally_count (leads ls) lead)
