@@ -1,7 +1,7 @@
 // Partitions of the tags into groups.
 
-ghost use Rattle.std.specs.Prelude.{◌≡◌, ℕ, ◌<◌, length, ◌==◌, slice_index};
-ghost use Rattle.groups.specs.Tables.{group_of};
+ghost use Rattle.std.specs.Prelude.{◌≡◌, ℕ, ◌<◌, ◌≤◌, length, ◌==◌, slice_index};
+ghost use Rattle.groups.specs.Tables.{group_of, leads, tally};
 ghost use Rattle.tags.specs.Partitions.{Lowests, joining};
 
 use std::array;
@@ -56,8 +56,16 @@ impl Partition {
         requires { tag < 1024 }
         ensures { result ≡ group_of self.now.lowest tag }
     {
-        let leads = |other: &u16| self.lowest[*other as usize] == *other;
-        let before = (0..self.lowest[tag as usize]).filter(leads).count();
-        1 + before as u32
+        1 + self.leaders_below(self.lowest[tag as usize])
+    }
+
+    // How many tags below this one are the lowest members of their groups.
+    fn leaders_below(&self, end: u16) -> u32
+        requires { end < 1024 }
+        ensures count { result ≡ tally (leads self.now.lowest) end }
+        ensures within { result ≤ end }
+    {
+        let leads = |tag: &u16| self.lowest[*tag as usize] == *tag;
+        (0..end).filter(leads).count() as u32
     }
 }
