@@ -1,6 +1,6 @@
 // Partitions of the tags into groups.
 
-ghost use Rattle.std.specs.Prelude.{◌≡◌, ℕ, ◌<◌, ◌≤◌, length, ◌==◌, slice_index};
+ghost use Rattle.std.specs.Prelude.{◌≡◌, ℕ, ◌<◌, ◌≤◌, length, Decides, slice_index};
 ghost use Rattle.groups.specs.Tables.{group_of, leads, tally};
 ghost use Rattle.tags.specs.Partitions.{Lowests, joining};
 
@@ -46,7 +46,7 @@ impl Partition {
     // Whether two tags are in one group.
     pub(crate) fn joins(&self, a: u16, b: u16) -> bool
         requires { (a < 1024) × (b < 1024) }
-        ensures { result ≡ (slice_index self.now.lowest a == slice_index self.now.lowest b) }
+        ensures { Decides result (slice_index self.now.lowest a ≡ slice_index self.now.lowest b) }
     {
         self.lowest[a as usize] == self.lowest[b as usize]
     }

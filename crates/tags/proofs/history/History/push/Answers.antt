@@ -15,21 +15,16 @@ use Rattle.tags.proofs.history.History.push.Goals as goal
 no_clash : (es : List Equation) (e : Equation) → Clash tags es e → ⊥
 no_clash es e clash = clash (towers (λ n. 0)) tt (all_each tags (towers (λ n. 0)) es (agree 0 0) (λ k h. refl)) refl
 
-pub invariant_of-self : goal.invariant_of-self
-invariant_of-self c =
+pub invariant_of-self-clause-layers : goal.invariant_of-self-clause-layers
+invariant_of-self-clause-layers c =
     let self = c.args.self.now in
     let es = vec_items self.standing in
     let ps = vec_items self.partitions in
     let s = between c.args.e c.requires.0 in
-    let long : length ps ≡ length es + 1 = omega (arith, self.one_more, self.standing.ok.0, self.partitions.ok.0) in record {
-      room = omega (arith, self.room, c.push_reserved-2.ensures.capacity);
-      space = omega (arith, self.space, c.push_reserved.ensures.capacity);
-      few = omega (arith, self.few, c.push_reserved-2.ensures.len, c.requires.1, self.standing.ok.0);
-      one_more = omega (arith, self.one_more, c.push_reserved-2.ensures.len, c.push_reserved.ensures.len);
-      layers = ∣ subst₂ (λ (fs : List Equation) (qs : List Partition). Layers fs qs) (sym c.push_reserved-2.ensures.items) (sym c.push_reserved.ensures.items)
-          (layers_push es ps c.args.e c.groups.result.now.lowest c.joined-joined.result long c.groups.result.now.long c.groups.ensures.newest
-          c.joined-joined.ensures s.0 s.1 (history_layers self)) ∣₁;
-    }
+    let long : length ps ≡ length es + 1 = omega (arith, self.one_more, self.standing.ok.0, self.partitions.ok.0) in
+    ∣ subst₂ (λ (fs : List Equation) (qs : List Partition). Layers fs qs) (sym c.push_reserved-2.ensures.items) (sym c.push_reserved.ensures.items)
+    (layers_push es ps c.args.e c.groups.result.now.lowest c.joined-joined.result long c.groups.result.now.long c.groups.ensures.newest
+    c.joined-joined.ensures s.0 s.1 (history_layers self)) ∣₁
 
-pub returns : goal.returns
-returns c = record { newest = c.push_reserved-2.ensures.items; fits = no_clash (vec_items c.args.self.now.standing) c.args.e }
+pub returns-clause-fits : goal.returns-clause-fits
+returns-clause-fits c = no_clash (vec_items c.args.self.now.standing) c.args.e
