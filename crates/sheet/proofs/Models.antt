@@ -3,6 +3,7 @@ use Rattle.std.proofs.Common.{◌≡◌, ℕ, ◌<◌, List, map, length, get_or
 use Rattle.terms.specs.Sheets.{Row, row, Sheet}
 use Rattle.sheet.specs.declared.rows.Term.{Term}
 use Rattle.sheet.specs.declared.rows.Term.TheVariants as V
+use Rattle.sheet.specs.declared.table.Table.{Table}
 use Rattle.sheet.specs.declared.writing.OpenSheet.{OpenSheet}
 use Rattle.sheet.specs.Rows.{shape, Formed}
 use Rattle.sheet.specs.Models.{arities_of, rows_of, Read}
@@ -11,9 +12,13 @@ use Rattle.sheet.proofs.Shapes.{row_read}
 use Rattle.sheet.proofs.Sheets.{sheet_plain}
 use Rattle.sheet.proofs.Indexes.{indexed_plain}
 
--- its symbols and rows are a sheet
+-- the symbols and rows of a table are a sheet
+pub table_sheet : (t : Table) → Sheet (vec_items t.arities) (map shape (vec_items t.terms))
+table_sheet t = sheet_plain (vec_items t.arities) (map shape (vec_items t.terms)) t.sheet
+
+-- and so those of a sheet in the writing
 pub sheet_of : (s : OpenSheet) → Sheet (arities_of s) (rows_of s)
-sheet_of s = sheet_plain (arities_of s) (rows_of s) s.table.sheet
+sheet_of s = table_sheet s.table
 
 -- its rows are indexed by their buckets
 pub indexed_rows : (s : OpenSheet) → Indexed (map bucket (rows_of s)) (vec_items s.index.latest) (vec_items s.index.earlier)

@@ -7,7 +7,8 @@ use crate::buckets::BUCKETS;
 use crate::table::TERMS;
 use std::alloc::{AllocError, Global};
 
-// Numbers from 0 on, each in a bucket, by which they are found again: the latest first.
+// Numbers from 0 on, each in a bucket, by which they are found again: the latest first. A map of the library would take
+// memory as it grows, and here no call after `new` may.
 #[derive(Drop)]
 pub(crate) struct Index {
     // For each bucket the latest number in it.
@@ -60,6 +61,6 @@ impl Index {
         ensures { Indexed [] self.new.latest.items self.new.earlier.items }
     {
         self.latest.fill(None);
-        self.earlier.truncate(0);
+        self.earlier.clear();
     }
 }

@@ -12,7 +12,8 @@ pub enum Term {
     Over(Compound),
 }
 
-// A symbol over the numbers of its arguments: the first `arity` places count.
+// A symbol over the numbers of its arguments: the first `arity` places count. It is Copy and owns no memory, which a vector
+// of up to 8 numbers is not and does.
 #[derive(Clone, Copy)]
 pub struct Compound {
     pub symbol: u8,
@@ -29,9 +30,7 @@ impl Compound {
         ensures { Row.over result.symbol (take result.arity result.arguments) ≡ Row.over symbol arguments.now }
     {
         let mut places = [0; 8];
-        for (i, x) in arguments.iter().enumerate() {
-            places[i] = *x;
-        }
+        places[..arguments.len()].copy_from_slice(arguments);
         Compound {
             symbol,
             arity: arguments.len() as u8,
