@@ -29,9 +29,6 @@ pub(crate) fn bucket_over(symbol: u8, arguments: &[u16]) -> u16
     ensures value { result ≡ bucket (Row.over symbol arguments.now) }
     ensures within { result < 2039 }
 {
-    let mut hash = symbol as u32;
-    for argument in arguments {
-        hash = (hash * 1583 + *argument as u32) % 2039;
-    }
-    hash as u16
+    let mixed = |hash: u32, argument: &u16| (hash * 1583 + *argument as u32) % 2039;
+    arguments.iter().fold(symbol as u32, mixed) as u16
 }
