@@ -14,23 +14,23 @@ use Rattle.tags.specs.declared.history.History.{History}
 
 -- The told world, by the table of the newest partition.
 abbrev pub told_in : History → World
-told_in h = told_by (newest (vec_items h.standing) (vec_items h.partitions))
+told_in h = told_by (newest (vec_items h.standing.vec) (vec_items h.partitions))
 
 -- its partitions go with its equations
-pub history_layers : (h : History) → Layers (vec_items h.standing) (vec_items h.partitions)
-history_layers h = layers_plain (vec_items h.standing) (vec_items h.partitions) h.layers
+pub history_layers : (h : History) → Layers (vec_items h.standing.vec) (vec_items h.partitions)
+history_layers h = layers_plain (vec_items h.standing.vec) (vec_items h.partitions) h.layers
 
 -- the newest has the lowest members of the groups of forced-equal tags
-pub history_table : (h : History) → Table 1024 (ForcedEqual (vec_items h.standing)) (newest (vec_items h.standing) (vec_items h.partitions))
+pub history_table : (h : History) → Table 1024 (ForcedEqual (vec_items h.standing.vec)) (newest (vec_items h.standing.vec) (vec_items h.partitions))
 history_table h =
-    newest_table (vec_items h.standing) (vec_items h.partitions) (omega (arith, h.one_more, h.standing.ok.0, h.partitions.ok.0)) (history_layers h)
+    newest_table (vec_items h.standing.vec) (vec_items h.partitions) (omega (arith, h.one_more, h.standing.vec.ok.0, h.partitions.ok.0)) (history_layers h)
 
 -- so the told world is a freest one, and what is told names its trees
-pub history_freest : (h : History) → FreestAt tags (vec_items h.standing) (told_in h)
+pub history_freest : (h : History) → FreestAt tags (vec_items h.standing.vec) (told_in h)
 history_freest h =
-    let es = vec_items h.standing in
+    let es = vec_items h.standing.vec in
     let ps = vec_items h.partitions in
     tag_freest es (newest es ps) (history_table h) (newest_exact es ps (history_layers h))
 
-pub history_named : (h : History) (n : ℕ) (a : Told) → TagTold (vec_items h.standing) n a → Names tag_telling (told_in h) a ((told_in h).tree n)
-history_named h = tag_named (vec_items h.standing) (newest (vec_items h.standing) (vec_items h.partitions)) (history_table h)
+pub history_named : (h : History) (n : ℕ) (a : Told) → TagTold (vec_items h.standing.vec) n a → Names tag_telling (told_in h) a ((told_in h).tree n)
+history_named h = tag_named (vec_items h.standing.vec) (newest (vec_items h.standing.vec) (vec_items h.partitions)) (history_table h)

@@ -10,7 +10,7 @@ ghost use Rattle.tags.specs.Tells.{tag_single};
 ghost use Rattle.tags.specs.Histories.{told_in, history_freest, history_named};
 
 use history::History;
-use logic::{Assumed, Equation, Kind, Logic, ROOM, Refusal, TellingLogic};
+use logic::{Assumed, Equation, Kind, Logic, Refusal, TellingLogic};
 use partition::TAGS;
 use std::alloc::{AllocError, Global};
 
@@ -27,7 +27,7 @@ pub struct Tags {
 impl Tags {
     // Tags of which no two are forced equal.
     pub fn new(heap: Global) -> Result<Tags, AllocError>
-        ensures { IfOk result (λ s. s.history.standing.items ≡ []) }
+        ensures { IfOk result (λ s. s.history.standing.vec.items ≡ []) }
     {
         let history = History::new(heap)?;
         Ok(Tags { history })
@@ -39,7 +39,7 @@ impl Logic for Tags {
 
     ghost telling = { λ _. tag_telling };
 
-    ghost stands = { λ s. s.history.standing.items };
+    ghost stands = { λ s. s.history.standing.vec.items };
 
     ghost lawful = { λ _. Unit {0} };
 
@@ -63,10 +63,7 @@ impl Logic for Tags {
         if !self.has(e) {
             return Err(Refusal::Foreign);
         }
-        if self.standing() == ROOM {
-            return Err(Refusal::Full);
-        }
-        self.history.push(e);
+        self.history.push(e)?;
         Ok(Assumed::Taken)
     }
 
@@ -82,7 +79,7 @@ impl TellingLogic for Tags {
 
     ghost named = { λ s n a good. history_named s.history n a };
 
-    ghost single = { λ s n a b good. tag_single s.history.standing.items n a b };
+    ghost single = { λ s n a b good. tag_single s.history.standing.vec.items n a b };
 
     ghost refusal = { Prim.search rules };
 

@@ -5,4 +5,4 @@ use Rattle.tags.proofs.history.History.group.Goals as goal
 
 pub returns : goal.returns
 returns c =
-    rw c.number.ensures (group_numbered 1024 (ForcedEqual (vec_items c.args.self.now.standing)) c.groups.result.now.lowest c.groups.ensures.table c.args.tag c.requires)
+    rw c.number.ensures (group_numbered 1024 (ForcedEqual (vec_items c.args.self.now.standing.vec)) c.groups.result.now.lowest c.groups.ensures.table c.args.tag c.requires)

@@ -7,5 +7,5 @@ use Rattle.tags.proofs.history.History.new.Goals as goal
 pub invariant_of-result-clause-layers : goal.invariant_of-result-clause-layers
 invariant_of-result-clause-layers c =
     let p = c.apart.result in
-    ∣ layers_first (vec_items c.in_ok-standing.standing) (vec_items c.push_reserved.new.self) p c.in_ok-standing.ensures.items
+    ∣ layers_first (vec_items c.in_ok-standing.standing.vec) (vec_items c.push_reserved.new.self) p c.in_ok-standing.ensures
     (c.push_reserved.ensures.items ∙ ap (λ (ps : List Partition). ps ++ (p ∷ [])) c.in_ok-partitions.ensures.items) (exact_apart p.lowest c.apart.ensures) ∣₁

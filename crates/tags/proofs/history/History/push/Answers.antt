@@ -1,4 +1,4 @@
-use Rattle.std.proofs.Common.{◌≡◌, ◌+◌, List, length, vec_items, sym, subst₂, refl, arith}
+use Rattle.std.proofs.Common.{◌≡◌, ◌+◌, List, length, vec_items, sym, ap, subst, subst₂, refl, arith}
 use Rattle.logic.specs.Trees.{towers}
 use Rattle.logic.specs.Theories.{Clash}
 use Rattle.logic.specs.declared.Equation.{Equation}
@@ -15,16 +15,29 @@ use Rattle.tags.proofs.history.History.push.Goals as goal
 no_clash : (es : List Equation) (e : Equation) → Clash tags es e → ⊥
 no_clash es e clash = clash (towers (λ n. 0)) tt (all_each tags (towers (λ n. 0)) es (agree 0 0) (λ k h. refl)) refl
 
-pub invariant_of-self-clause-layers : goal.invariant_of-self-clause-layers
-invariant_of-self-clause-layers c =
+pub invariant_of-self : goal.invariant_of-self
+invariant_of-self c =
     let self = c.args.self.now in
-    let es = vec_items self.standing in
+    let kept : vec_items c.push.new.self.vec ≡ vec_items self.standing.vec = c.in_err-push.ensures.1 in
+    record {
+      space = self.space;
+      one_more = omega (arith, self.one_more, ap length kept, self.standing.vec.ok.0, c.push.new.self.vec.ok.0);
+      layers = ∣ subst (λ (fs : List Equation). Layers fs (vec_items self.partitions)) (sym kept) (history_layers self) ∣₁;
+    }
+
+pub invariant_of-self-2-clause-layers : goal.invariant_of-self-2-clause-layers
+invariant_of-self-2-clause-layers c =
+    let self = c.args.self.now in
+    let es = vec_items self.standing.vec in
     let ps = vec_items self.partitions in
-    let s = between c.args.e c.requires.0 in
-    let long : length ps ≡ length es + 1 = omega (arith, self.one_more, self.standing.ok.0, self.partitions.ok.0) in
-    ∣ subst₂ (λ (fs : List Equation) (qs : List Partition). Layers fs qs) (sym c.push_reserved-2.ensures.items) (sym c.push_reserved.ensures.items)
+    let s = between c.args.e c.requires in
+    let long : length ps ≡ length es + 1 = omega (arith, self.one_more, self.standing.vec.ok.0, self.partitions.ok.0) in
+    ∣ subst₂ (λ (fs : List Equation) (qs : List Partition). Layers fs qs) (sym c.in_ok-push.ensures.1) (sym c.push_reserved.ensures.items)
     (layers_push es ps c.args.e c.groups.result.now.lowest c.joined-joined.result long c.groups.result.now.long c.groups.ensures.newest
     c.joined-joined.ensures s.0 s.1 (history_layers self)) ∣₁
 
+pub returns-in_err-push-clause-fits : goal.returns-in_err-push-clause-fits
+returns-in_err-push-clause-fits c = no_clash (vec_items c.args.self.now.standing.vec) c.args.e
+
 pub returns-clause-fits : goal.returns-clause-fits
-returns-clause-fits c = no_clash (vec_items c.args.self.now.standing) c.args.e
+returns-clause-fits c = no_clash (vec_items c.args.self.now.standing.vec) c.args.e
