@@ -1,18 +1,19 @@
 -- What is told of a tag is one thing, and it is what the told world has there. Assumes nothing.
-use Rattle.std.specs.Prelude.{◌≡◌, ℕ, zero, suc, ◌<◌, true, List, nat_lt}
+use Rattle.std.specs.Prelude.{◌≡◌, ℕ, zero, suc, ◌<◌, true, List, nat_lt, refl}
 use Rattle.std.proofs.Common.{sym, ap, ap₂, ◌∙◌, arith}
 use Rattle.std.proofs.lemmas.Bool.{and_parts, and_from, ltb-true}
-use Rattle.logic.specs.Trees.{tower}
-use Rattle.logic.specs.Theories.{FreestAt}
+use Rattle.logic.specs.Trees.{tower, towers}
+use Rattle.logic.specs.Theories.{Clash, FreestAt}
 use Rattle.logic.specs.Tellings.{Told, Names}
 use Rattle.logic.specs.Tellings.Told.{told, refused}
 use Rattle.logic.specs.declared.Equation.{Equation}
+use Rattle.logic.proofs.Trues.{all_each}
 use Rattle.logic.proofs.Towers.{tower_same}
 use Rattle.groups.specs.Groups.{GroupNumber}
 use Rattle.groups.specs.Tables.{Table, group_of, tally, leads}
 use Rattle.groups.proofs.Numbers.{group_single}
 use Rattle.groups.proofs.Tables.{group_numbered, group_agrees}
-use Rattle.tags.specs.Tags.{tags, Tag, ForcedEqual, TagTold, tag_telling}
+use Rattle.tags.specs.Tags.{tags, agree, Tag, ForcedEqual, TagTold, tag_telling}
 use Rattle.tags.specs.Partitions.{Exact, told_by}
 use Rattle.tags.specs.PartitionsLemmas.{heights_true}
 
@@ -21,6 +22,10 @@ pub between : (e : Equation) → tags.has e ≡ true → (e.left < 1024) × (e.r
 between e had =
     let both = and_parts (nat_lt e.left 1024) (nat_lt e.right 1024) had in
     (ltb-true e.left 1024 both.0, ltb-true e.right 1024 both.1)
+
+-- the world in which all trees are one makes every equation true
+pub no_clash : (es : List Equation) (e : Equation) → Clash tags es e → ⊥
+no_clash es e clash = clash (towers (λ n. 0)) tt (all_each tags (towers (λ n. 0)) es (agree 0 0) (λ k h. refl)) refl
 
 -- being forced equal can be turned round and carried on
 equal_turned : (es : List Equation) (a b : ℕ) → ForcedEqual es a b → ForcedEqual es b a

@@ -2,7 +2,6 @@
 
 ghost use Rattle.std.specs.Prelude.{◌≡◌, ◌+◌, ◌<◌, ◌≤◌, true, [], length, take, IfOk, vec_len, vec_capacity, Decides};
 ghost use Rattle.bounded.specs.Bounds.{Pushes};
-ghost use Rattle.logic.specs.Theories.{Clash};
 ghost use Rattle.groups.specs.Groups.{GroupNumber};
 ghost use Rattle.groups.specs.Tables.{Table};
 ghost use Rattle.tags.specs.Tags.{tags, Tag, ForcedEqual};
@@ -70,11 +69,10 @@ impl History {
         self.groups().number(tag)
     }
 
-    // Lets an equation of tags stand as the newest, unless there is no room for it. It never clashes.
+    // Lets an equation of tags stand as the newest, unless there is no room for it.
     pub(crate) fn push(&mut self, e: Equation) -> Result<(), Full>
         requires { tags.has e ≡ true }
-        ensures pushes { Pushes 256 self.old.standing.vec.items e result self.new.standing.vec.items }
-        ensures fits { Clash tags self.old.standing.vec.items e → ⊥ }
+        ensures { Pushes 256 self.old.standing.vec.items e result self.new.standing.vec.items }
     {
         let joined = self.groups().joined(e.left, e.right);
         self.standing.push(e)?;

@@ -59,6 +59,7 @@ impl Logic for Tags {
         self.history.len()
     }
 
+    #[tactic(auto, using(crate::specs::Tells::no_clash))]
     fn assume(&mut self, e: Equation) -> Result<Assumed, Refusal> {
         if !self.has(e) {
             return Err(Refusal::Foreign);

@@ -1,19 +1,11 @@
-use Rattle.std.proofs.Common.{◌≡◌, ◌+◌, List, length, vec_items, sym, ap, subst, subst₂, refl, arith}
-use Rattle.logic.specs.Trees.{towers}
-use Rattle.logic.specs.Theories.{Clash}
+use Rattle.std.proofs.Common.{◌≡◌, ◌+◌, List, length, vec_items, sym, ap, subst, subst₂, arith}
 use Rattle.logic.specs.declared.Equation.{Equation}
-use Rattle.logic.proofs.Trues.{all_each}
-use Rattle.tags.specs.Tags.{tags, agree}
 use Rattle.tags.specs.Layers.{Layers}
 use Rattle.tags.specs.Tells.{between}
 use Rattle.tags.specs.Histories.{history_layers}
 use Rattle.tags.specs.declared.partition.Partition.{Partition}
 use Rattle.tags.proofs.Layers.{layers_push}
 use Rattle.tags.proofs.history.History.push.Goals as goal
-
--- the world in which all trees are one makes every equation true
-no_clash : (es : List Equation) (e : Equation) → Clash tags es e → ⊥
-no_clash es e clash = clash (towers (λ n. 0)) tt (all_each tags (towers (λ n. 0)) es (agree 0 0) (λ k h. refl)) refl
 
 pub invariant_of-self : goal.invariant_of-self
 invariant_of-self c =
@@ -35,9 +27,3 @@ invariant_of-self-2-clause-layers c =
     ∣ subst₂ (λ (fs : List Equation) (qs : List Partition). Layers fs qs) (sym c.in_ok-push.ensures.1) (sym c.push_reserved.ensures.items)
     (layers_push es ps c.args.e c.groups.result.now.lowest c.joined-joined.result long c.groups.result.now.long c.groups.ensures.newest
     c.joined-joined.ensures s.0 s.1 (history_layers self)) ∣₁
-
-pub returns-in_err-push-clause-fits : goal.returns-in_err-push-clause-fits
-returns-in_err-push-clause-fits c = no_clash (vec_items c.args.self.now.standing.vec) c.args.e
-
-pub returns-clause-fits : goal.returns-clause-fits
-returns-clause-fits c = no_clash (vec_items c.args.self.now.standing.vec) c.args.e
