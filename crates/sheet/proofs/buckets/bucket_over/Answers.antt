@@ -1,10 +1,8 @@
 use Rattle.std.proofs.Common.{◌≡◌, ℕ, ◌+◌, ◌*◌, ◌%◌, ◌<◌, List, [], ◌∷◌, fold, arith, rules}
 use Rattle.std.proofs.lemmas.Fn.{serves_by}
-use Rattle.terms.specs.Sheets.{Row}
-use Rattle.sheet.specs.Indexes.{bucket}
 use Rattle.sheet.proofs.buckets.bucket_over.Goals as goal
 
--- a bucket of a compound term comes before that of the names
+-- a bucket is one of 2,039
 below : (h : ℕ) (xs : List ℕ) → h < 2039 → fold (λ h x. (h * 1583 + x) % 2039) h xs < 2039
 below h [] small = small
 below h (x ∷ xs) small = below ((h * 1583 + x) % 2039) xs (omega arith)
@@ -16,10 +14,10 @@ fold-requires-clause-callable c =
 
 pub overflow_cast-result : goal.overflow_cast-result
 overflow_cast-result c =
-    let value : c.fold.result ≡ bucket (Row.over c.args.symbol c.args.arguments.now) = search rules in
+    let value : c.fold.result ≡ fold (λ h x. (h * 1583 + x) % 2039) c.args.symbol c.args.arguments.now = search rules in
     omega (arith, below c.args.symbol c.args.arguments.now (omega arith))
 
 pub returns-clause-within : goal.returns-clause-within
 returns-clause-within c =
-    let value : c.fold.result ≡ bucket (Row.over c.args.symbol c.args.arguments.now) = search rules in
+    let value : c.fold.result ≡ fold (λ h x. (h * 1583 + x) % 2039) c.args.symbol c.args.arguments.now = search rules in
     omega (arith, below c.args.symbol c.args.arguments.now (omega arith))
