@@ -1,5 +1,5 @@
 -- What holds of every sheet in the writing, and of every term. Assumes nothing.
-use Rattle.std.proofs.Common.{◌≡◌, ℕ, ◌<◌, List, map, length, get_or, vec_items, subst}
+use Rattle.std.proofs.Common.{◌≡◌, ℕ, ◌<◌, List, [], Option, map, length, get_or, vec_items, sym, ap, subst}
 use Rattle.terms.specs.Sheets.{Row, row, Sheet}
 use Rattle.sheet.specs.declared.rows.Term.{Term}
 use Rattle.sheet.specs.declared.rows.Term.TheVariants as V
@@ -23,6 +23,11 @@ sheet_of s = table_sheet s.table
 -- its rows are indexed by their buckets
 pub indexed_rows : (s : OpenSheet) → Indexed (map bucket (rows_of s)) (vec_items s.index.latest) (vec_items s.index.earlier)
 indexed_rows s = indexed_plain (map bucket (rows_of s)) (vec_items s.index.latest) (vec_items s.index.earlier) s.indexed
+
+-- the index of no number is that of no term
+pub indexed_blank : (ts : List Term) (latest earlier : List (Option ℕ)) → ts ≡ [] → Indexed [] latest earlier → Indexed (map bucket (map shape ts)) latest earlier
+indexed_blank ts latest earlier none x =
+    subst (λ (bs : List (Option ℕ)). Indexed bs latest earlier) (sym (ap (λ (us : List Term). map bucket (map shape us)) none)) x
 
 -- a term is well formed
 pub formed : (t : Term) → Formed t

@@ -7,8 +7,8 @@ use crate::buckets::BUCKETS;
 use crate::table::TERMS;
 use std::alloc::{AllocError, Global};
 
-// Numbers from 0 on, each in a bucket or in none, by which they are found again: the latest first. A map of the library would take
-// memory as it grows, and here no call after `new` may.
+// Numbers from 0 on, each in a bucket or in none, by which they are found again: the latest first. A map of the library
+// would take memory as it grows, and here no call after `new` may.
 #[derive(Drop)]
 pub(crate) struct Index {
     // For each bucket the latest number in it.

@@ -12,8 +12,8 @@ pub enum Term {
     Over(Compound),
 }
 
-// A symbol over the numbers of its arguments: the first `arity` places count. It is Copy and owns no memory, which a vector
-// of up to 8 numbers is not and does.
+// A symbol over the numbers of its arguments: the first `arity` places count. An array with its length beside it is Copy
+// and owns no memory, which no vector of the library is and does.
 #[derive(Clone, Copy)]
 pub struct Compound {
     pub symbol: u8,
@@ -42,7 +42,7 @@ impl Compound {
     pub fn arguments(&self) -> &[u16]
         ensures { result.now ≡ take self.now.arity self.now.arguments }
     {
-        &self.arguments[0..self.arity as usize]
+        &self.arguments[..self.arity as usize]
     }
 
     // Whether it is the symbol over these arguments.

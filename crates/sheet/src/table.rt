@@ -90,16 +90,14 @@ impl Table {
     pub(crate) fn admits(&self, symbol: u8, arguments: &[u16]) -> Result<(), Refusal>
         ensures { MatchResult result (λ _. Writable self.now.arities.items (length (map shape self.now.terms.items)) symbol arguments.now) (λ e. Unwritable self.now.arities.items (length (map shape self.now.terms.items)) symbol arguments.now (refusal_number e)) }
     {
-        if symbol as usize >= self.arities.len() {
+        let Some(arity) = self.arities.get(symbol as usize) else {
             return Err(Refusal::UnknownSymbol);
-        }
-        if arguments.len() != self.arities[symbol as usize] as usize {
+        };
+        if arguments.len() != *arity as usize {
             return Err(Refusal::WrongCount);
         }
-        if arguments
-            .iter()
-            .any(|argument| *argument as usize >= self.terms.len())
-        {
+        let is_lacking = |argument: &u16| *argument as usize >= self.terms.len();
+        if arguments.iter().any(is_lacking) {
             return Err(Refusal::NoTerm);
         }
         Ok(())
