@@ -16,32 +16,36 @@ abbrev pub ahead : Option ℕ → ℕ
 ahead None = 0
 ahead (Some n) = suc n
 
-module _ (rs : List Row) where
-  -- the bucket of a number is that of its row
-  bucket_at : (j : ℕ) → j < length rs → get_or (map bucket rs) j 0 ≡ bucket (row rs j)
-  bucket_at j h = get_or-map bucket rs j Row.name 0 h
+-- where r is in the bucket b
+module _ (rs : List Row) (r : Row) (b : ℕ) (bucketed : bucket r ≡ Some b) where
+  bucket_at : (j : ℕ) → j < length rs → get_or (map bucket rs) j None ≡ bucket (row rs j)
+  bucket_at j h = get_or-map bucket rs j Row.name None h
 
-  pub walked_start : (r : Row) (o : Option ℕ) → Latest (In (map bucket rs) (bucket r)) (length (map bucket rs)) o → Walked rs r o
-  walked_start r None l = λ n h is. l n (omega (arith, length-map rs bucket)) (bucket_at n h ∙ ap bucket is)
-  walked_start r (Some n) l =
+  -- a number is in b where its row has r's bucket
+  pub in_bucket : (j : ℕ) → j < length rs → bucket (row rs j) ≡ bucket r → In (map bucket rs) b j
+  in_bucket j h same = bucket_at j h ∙ same ∙ bucketed
+
+  has_bucket : (j : ℕ) → j < length rs → In (map bucket rs) b j → bucket (row rs j) ≡ bucket r
+  has_bucket j h is = sym (bucket_at j h) ∙ is ∙ sym bucketed
+
+  pub walked_start : (o : Option ℕ) → Latest (In (map bucket rs) b) (length (map bucket rs)) o → Walked rs r o
+  walked_start None l = λ n h is. l n (omega (arith, length-map rs bucket)) (in_bucket n h (ap bucket is))
+  walked_start (Some n) l =
       let h : n < length rs = omega (arith, length-map rs bucket, l.0) in
-      (h, sym (bucket_at n h) ∙ l.1, λ j a i is. l.2 j a (omega (arith, length-map rs bucket)) (bucket_at j i ∙ ap bucket is))
+      (h, has_bucket n h l.1, λ j a i is. l.2 j a (omega (arith, length-map rs bucket)) (in_bucket j i (ap bucket is)))
 
-  -- a row that is r is in the bucket of n, so it is not between n and the latest number before n in its bucket
-  module _ (r : Row) (n : ℕ) (w : Walked rs r (Some n)) (other : row rs n ≡ r → ⊥) where
-    same_bucket : (j : ℕ) → j < n → row rs j ≡ r → In (map bucket rs) (get_or (map bucket rs) n 0) j
-    same_bucket j h is = bucket_at j (omega (arith, w.0)) ∙ ap bucket is ∙ sym w.1 ∙ sym (bucket_at n w.0)
-
+  -- a row that is r is in the bucket, so it is not between n and the latest number before n there
+  module _ (n : ℕ) (w : Walked rs r (Some n)) (other : row rs n ≡ r → ⊥) where
     later : (j : ℕ) → n < suc j → j < length rs → row rs j ≡ r → ⊥
     later j a h is = elim (cases_eq j n) [ inl same ↦ other (ap (row rs) (sym same) ∙ is) | inr apart ↦ w.2 j (omega arith) h is ]
 
-    pub walked_step : (o : Option ℕ) → Latest (In (map bucket rs) (get_or (map bucket rs) n 0)) n o → Walked rs r o
-    walked_step None l = λ j h is. elim (cases_lt j n) [ inl low ↦ l j low (same_bucket j low is) | inr high ↦ later j (omega arith) h is ]
+    pub walked_step : (o : Option ℕ) → Latest (In (map bucket rs) b) n o → Walked rs r o
+    walked_step None l = λ j h is. elim (cases_lt j n) [ inl low ↦ l j low (in_bucket j h (ap bucket is)) | inr high ↦ later j (omega arith) h is ]
     walked_step (Some m) l =
         let h : m < length rs = omega (arith, w.0, l.0) in (
           h,
-          sym (bucket_at m h) ∙ l.1 ∙ bucket_at n w.0 ∙ w.1,
-          λ j a i is. elim (cases_lt j n) [ inl low ↦ l.2 j a low (same_bucket j low is) | inr high ↦ later j (omega arith) i is ],
+          has_bucket m h l.1,
+          λ j a i is. elim (cases_lt j n) [ inl low ↦ l.2 j a low (in_bucket j i (ap bucket is)) | inr high ↦ later j (omega arith) i is ],
         )
 
 -- a step along the bucket

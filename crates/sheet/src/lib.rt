@@ -12,6 +12,8 @@ ghost use Rattle.sheet.specs.Models.{arities_of, rows_of, Read};
 use index::Index;
 pub use rows::{Compound, Term};
 use std::alloc::{AllocError, Global};
+use std::error::Error;
+use std::fmt;
 use table::{SYMBOLS, Table};
 pub use writing::OpenSheet;
 
@@ -59,6 +61,14 @@ impl Refusal {
         }
     }
 }
+
+impl fmt::Display for Refusal {
+    fn fmt<W: fmt::Write>(&self, f: &mut fmt::Formatter<W>) -> fmt::Result {
+        write!(f, "refused {}", self.number())
+    }
+}
+
+impl Error for Refusal {}
 
 impl OpenSheet {
     // The symbols base, 0, and step, 1, and no term. This takes all the memory that the sheet ever needs.

@@ -12,7 +12,8 @@ pub enum Term {
     Over(Compound),
 }
 
-// A symbol over the numbers of its arguments: the first `arity` places count.
+// A symbol over the numbers of its arguments: the first `arity` places count. An array with its length beside it is Copy
+// and owns no memory, which no vector of the library is and does.
 #[derive(Clone, Copy)]
 pub struct Compound {
     pub symbol: u8,
@@ -29,9 +30,7 @@ impl Compound {
         ensures { Row.over result.symbol (take result.arity result.arguments) ≡ Row.over symbol arguments.now }
     {
         let mut places = [0; 8];
-        for (i, x) in arguments.iter().enumerate() {
-            places[i] = *x;
-        }
+        places[..arguments.len()].copy_from_slice(arguments);
         Compound {
             symbol,
             arity: arguments.len() as u8,
@@ -43,7 +42,7 @@ impl Compound {
     pub fn arguments(&self) -> &[u16]
         ensures { result.now ≡ take self.now.arity self.now.arguments }
     {
-        &self.arguments[0..self.arity as usize]
+        &self.arguments[..self.arity as usize]
     }
 
     // Whether it is the symbol over these arguments.

@@ -1,7 +1,7 @@
 // The table of a sheet: its symbols by their arities, and its terms by their numbers.
 
 ghost use Rattle.std.specs.Prelude.{◌≡◌, ◌<◌, ◌≤◌, [], ◌∷◌, ◌++◌, map, length, take, IfOk, vec_capacity, Decides, MatchResult};
-ghost use Rattle.terms.specs.Sheets.{Row, row, Writable, Sheet};
+ghost use Rattle.terms.specs.Sheets.{Row, row, Symbols, Writable, Sheet};
 ghost use Rattle.sheet.specs.Refusals.{refusal_number};
 ghost use Rattle.sheet.specs.Rows.{shape, Fresh};
 ghost use Rattle.sheet.specs.Answers.{Unwritable};
@@ -33,29 +33,23 @@ impl Table {
     pub(crate) fn new(heap: Global) -> Result<Table, AllocError>
         ensures { IfOk result (λ t. (t.arities.items ≡ 0 ∷ (1 ∷ [])) × (t.terms.items ≡ [])) }
     {
-        let arities = Vec::with_capacity(heap, SYMBOLS)?;
-        let terms = Vec::with_capacity(heap, TERMS)?;
-        Ok(Table::first(arities, terms))
-    }
-
-    // The same, in memory that is at hand.
-    fn first(mut arities: Vec<u8>, terms: Vec<Term>) -> Table
-        requires empty { (arities.items ≡ []) × (terms.items ≡ []) }
-        requires room { (16 ≤ vec_capacity arities) × (1024 ≤ vec_capacity terms) }
-        ensures symbols { result.arities.items ≡ 0 ∷ (1 ∷ []) }
-        ensures terms { result.terms.items ≡ [] }
-    {
-        arities.push_reserved(0);
-        arities.push_reserved(1);
-        Table { arities, terms }
+        Table::with_symbols(heap, &[0, 1])
     }
 
     // The same symbols, and no term.
     pub(crate) fn blank(&self, heap: Global) -> Result<Table, AllocError>
         ensures { IfOk result (λ t. (t.arities.items ≡ self.now.arities.items) × (t.terms.items ≡ [])) }
     {
+        Table::with_symbols(heap, self.arities.as_slice())
+    }
+
+    // The symbols of these arities, and no term.
+    fn with_symbols(heap: Global, symbols: &[u8]) -> Result<Table, AllocError>
+        requires { Symbols symbols.now }
+        ensures { IfOk result (λ t. (t.arities.items ≡ symbols.now) × (t.terms.items ≡ [])) }
+    {
         let mut arities = Vec::with_capacity(heap, SYMBOLS)?;
-        arities.extend_from_slice(self.arities.as_slice())?;
+        arities.extend_from_slice(symbols)?;
         let terms = Vec::with_capacity(heap, TERMS)?;
         Ok(Table { arities, terms })
     }
@@ -96,16 +90,15 @@ impl Table {
     pub(crate) fn admits(&self, symbol: u8, arguments: &[u16]) -> Result<(), Refusal>
         ensures { MatchResult result (λ _. Writable self.now.arities.items (length (map shape self.now.terms.items)) symbol arguments.now) (λ e. Unwritable self.now.arities.items (length (map shape self.now.terms.items)) symbol arguments.now (refusal_number e)) }
     {
-        if symbol as usize >= self.arities.len() {
+        let Some(arity) = self.arities.get(symbol as usize) else {
             return Err(Refusal::UnknownSymbol);
-        }
-        if arguments.len() != self.arities[symbol as usize] as usize {
+        };
+        if arguments.len() != *arity as usize {
             return Err(Refusal::WrongCount);
         }
-        for argument in arguments {
-            if *argument as usize >= self.terms.len() {
-                return Err(Refusal::NoTerm);
-            }
+        let is_lacking = |argument: &u16| *argument as usize >= self.terms.len();
+        if arguments.iter().any(is_lacking) {
+            return Err(Refusal::NoTerm);
         }
         Ok(())
     }
@@ -146,14 +139,6 @@ impl Table {
         ensures arities { self.new.arities.items ≡ self.old.arities.items }
         ensures terms { self.new.terms.items ≡ [] }
     {
-        self.truncate(0);
-    }
-
-    // Keeps the oldest n terms.
-    fn truncate(&mut self, n: usize)
-        ensures arities { self.new.arities.items ≡ self.old.arities.items }
-        ensures terms { self.new.terms.items ≡ take n self.old.terms.items }
-    {
-        self.terms.truncate(n);
+        self.terms.clear();
     }
 }

@@ -45,3 +45,10 @@ fn refusals_come_in_order(rt: HostRuntime) -> Result<(), Fail> {
     assert_eq!(rt; sheet.term(2, &[0, 0]), Ok(1));
     Ok(())
 }
+
+#[test]
+fn refusals_print_their_numbers(rt: HostRuntime) -> Result<(), Fail> {
+    let text = format!(in rt.alloc(); "{}", Refusal::NoTerm)?;
+    assert_eq!(rt; text.as_str(), "refused 16");
+    Ok(())
+}

@@ -1,21 +1,21 @@
 -- What is told of a tag is one thing, and it is what the told world has there. Assumes nothing.
-use Rattle.std.specs.Prelude.{◌≡◌, ℕ, zero, suc, ◌<◌, true, List, nat_lt, slice_index_or, refl}
+use Rattle.std.specs.Prelude.{◌≡◌, ℕ, zero, suc, ◌<◌, true, List, nat_lt, refl}
 use Rattle.std.proofs.Common.{sym, ap, ap₂, ◌∙◌, arith}
-use Rattle.std.proofs.Math.Logic.{∥∥₁_elim}
 use Rattle.std.proofs.lemmas.Bool.{and_parts, and_from, ltb-true}
 use Rattle.logic.specs.Trees.{tower, towers}
 use Rattle.logic.specs.Theories.{Clash, FreestAt}
 use Rattle.logic.specs.Tellings.{Told, Names}
 use Rattle.logic.specs.Tellings.Told.{told, refused}
 use Rattle.logic.specs.declared.Equation.{Equation}
-use Rattle.logic.proofs.Towers.{tower_same, tree_set}
 use Rattle.logic.proofs.Trues.{all_each}
+use Rattle.logic.proofs.Towers.{tower_same}
 use Rattle.groups.specs.Groups.{GroupNumber}
 use Rattle.groups.specs.Tables.{Table, group_of, tally, leads}
 use Rattle.groups.proofs.Numbers.{group_single}
 use Rattle.groups.proofs.Tables.{group_numbered, group_agrees}
 use Rattle.tags.specs.Tags.{tags, agree, Tag, ForcedEqual, TagTold, tag_telling}
 use Rattle.tags.specs.Partitions.{Exact, told_by}
+use Rattle.tags.specs.PartitionsLemmas.{heights_true}
 
 -- an equation of tags is between two of them
 pub between : (e : Equation) → tags.has e ≡ true → (e.left < 1024) × (e.right < 1024)
@@ -55,13 +55,11 @@ module _ (es : List Equation) (ls : List ℕ) (table : Table 1024 (ForcedEqual e
   tag_named n (told (suc k) i) x = absurd (omega (arith, x.1))
   tag_named n (refused r) x = tt
 
-  pub tag_freest : ∥ Exact es ls ∥₁ → FreestAt tags es (told_by ls)
+  pub tag_freest : Exact es ls → FreestAt tags es (told_by ls)
   tag_freest exact =
       record {
         own = tt;
-        all = all_each tags (told_by ls) es (agree 0 0)
-            (λ k h. ∥∥₁_elim exact (tree_set ((told_by ls).tree (slice_index_or es k (agree 0 0)).left) ((told_by ls).tree (slice_index_or es k (agree 0 0)).right))
-            (λ x. ap (λ v. tower (suc (tally (leads ls) v))) (x.joins k h)));
+        all = heights_true es ls (λ v. suc (tally (leads ls) v)) exact;
         free = λ e had true_here.
             let s = between e had in
             (table.agree e.left e.right s.0 s.1).1

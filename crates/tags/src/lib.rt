@@ -5,14 +5,12 @@
 
 ghost use Rattle.std.specs.Prelude.{◌≡◌, [], IfOk};
 ghost use Rattle.tags.specs.Tags.{tags, tag_telling};
-ghost use Rattle.tags.specs.Partitions.{told_by};
-ghost use Rattle.tags.specs.Layers.{newest};
-ghost use Rattle.std.proofs.Common.{arith, rules};
-ghost use Rattle.tags.specs.LayersLemmas.{newest_exact, newest_table};
-ghost use Rattle.tags.specs.Tells.{tag_freest, tag_named, tag_single};
+ghost use Rattle.std.proofs.Common.{rules};
+ghost use Rattle.tags.specs.Tells.{tag_single};
+ghost use Rattle.tags.specs.Histories.{told_in, history_freest, history_named};
 
 use history::History;
-use logic::{Assumed, Equation, Kind, Logic, ROOM, Refusal, TellingLogic};
+use logic::{Assumed, Equation, Kind, Logic, Refusal, TellingLogic};
 use partition::TAGS;
 use std::alloc::{AllocError, Global};
 
@@ -29,7 +27,7 @@ pub struct Tags {
 impl Tags {
     // Tags of which no two are forced equal.
     pub fn new(heap: Global) -> Result<Tags, AllocError>
-        ensures { IfOk result (λ s. s.history.standing.items ≡ []) }
+        ensures { IfOk result (λ s. s.history.standing.vec.items ≡ []) }
     {
         let history = History::new(heap)?;
         Ok(Tags { history })
@@ -41,18 +39,13 @@ impl Logic for Tags {
 
     ghost telling = { λ _. tag_telling };
 
-    ghost stands = { λ s. s.history.standing.items };
+    ghost stands = { λ s. s.history.standing.vec.items };
 
     ghost lawful = { λ _. Unit {0} };
 
     ghost few = { Prim.search rules };
 
-    ghost freest = { λ s good.
-        let es = s.history.standing.items in
-        let ps = s.history.partitions.items in (
-          told_by (newest es ps),
-          tag_freest es (newest es ps) (newest_table es ps (omega (arith, s.history.one_more, s.history.standing.ok.0, s.history.partitions.ok.0)) s.history.layers) (newest_exact es ps s.history.layers),
-        ) };
+    ghost freest = { λ s good. (told_in s.history, history_freest s.history) };
 
     fn has(&self, e: Equation) -> bool {
         e.left < TAGS && e.right < TAGS
@@ -66,14 +59,12 @@ impl Logic for Tags {
         self.history.len()
     }
 
+    #[tactic(auto, using(crate::specs::Tells::no_clash))]
     fn assume(&mut self, e: Equation) -> Result<Assumed, Refusal> {
         if !self.has(e) {
             return Err(Refusal::Foreign);
         }
-        if self.standing() == ROOM {
-            return Err(Refusal::Full);
-        }
-        self.history.push(e);
+        self.history.push(e)?;
         Ok(Assumed::Taken)
     }
 
@@ -83,19 +74,13 @@ impl Logic for Tags {
 }
 
 impl TellingLogic for Tags {
-    ghost told = { λ s. told_by (newest s.history.standing.items s.history.partitions.items) };
+    ghost told = { λ s. told_in s.history };
 
-    ghost free = { λ s good.
-        let es = s.history.standing.items in
-        let ps = s.history.partitions.items in
-        tag_freest es (newest es ps) (newest_table es ps (omega (arith, s.history.one_more, s.history.standing.ok.0, s.history.partitions.ok.0)) s.history.layers) (newest_exact es ps s.history.layers) };
+    ghost free = { λ s good. history_freest s.history };
 
-    ghost named = { λ s n a good.
-        let es = s.history.standing.items in
-        let ps = s.history.partitions.items in
-        tag_named es (newest es ps) (newest_table es ps (omega (arith, s.history.one_more, s.history.standing.ok.0, s.history.partitions.ok.0)) s.history.layers) n a };
+    ghost named = { λ s n a good. history_named s.history n a };
 
-    ghost single = { λ s n a b good. tag_single s.history.standing.items n a b };
+    ghost single = { λ s n a b good. tag_single s.history.standing.vec.items n a b };
 
     ghost refusal = { Prim.search rules };
 

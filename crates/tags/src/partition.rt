@@ -1,8 +1,10 @@
 // Partitions of the tags into groups.
 
-ghost use Rattle.std.specs.Prelude.{◌≡◌, ℕ, ◌<◌, length, ◌==◌, slice_index};
-ghost use Rattle.groups.specs.Tables.{group_of};
+ghost use Rattle.std.specs.Prelude.{◌≡◌, ℕ, ◌<◌, ◌≤◌, length, Decides, slice_index};
+ghost use Rattle.groups.specs.Tables.{group_of, leads, tally};
 ghost use Rattle.tags.specs.Partitions.{Lowests, joining};
+
+use std::array;
 
 // How many tags there are.
 pub(crate) const TAGS: u16 = 1024;
@@ -20,11 +22,9 @@ impl Partition {
     pub(crate) fn apart() -> Partition
         ensures { (i : ℕ) → i < 1024 → slice_index result.lowest i ≡ i }
     {
-        let mut lowest = [0; 1024];
-        for tag in 0..TAGS {
-            lowest[tag as usize] = tag;
+        Partition {
+            lowest: array::from_fn(|tag| tag as u16),
         }
-        Partition { lowest }
     }
 
     // The partition with the groups of two tags made one.
@@ -46,7 +46,7 @@ impl Partition {
     // Whether two tags are in one group.
     pub(crate) fn joins(&self, a: u16, b: u16) -> bool
         requires { (a < 1024) × (b < 1024) }
-        ensures { result ≡ (slice_index self.now.lowest a == slice_index self.now.lowest b) }
+        ensures { Decides result (slice_index self.now.lowest a ≡ slice_index self.now.lowest b) }
     {
         self.lowest[a as usize] == self.lowest[b as usize]
     }
@@ -56,12 +56,16 @@ impl Partition {
         requires { tag < 1024 }
         ensures { result ≡ group_of self.now.lowest tag }
     {
-        let mut number = 1;
-        for other in 0..self.lowest[tag as usize] {
-            if self.lowest[other as usize] == other {
-                number += 1;
-            }
-        }
-        number
+        1 + self.leaders_below(self.lowest[tag as usize])
+    }
+
+    // How many tags below this one are the lowest members of their groups.
+    fn leaders_below(&self, end: u16) -> u32
+        requires { end < 1024 }
+        ensures count { result ≡ tally (leads self.now.lowest) end }
+        ensures within { result ≤ end }
+    {
+        let leads = |tag: &u16| self.lowest[*tag as usize] == *tag;
+        (0..end).filter(leads).count() as u32
     }
 }

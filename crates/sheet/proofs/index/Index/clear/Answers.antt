@@ -8,4 +8,4 @@ returns c =
     let none : Option ℕ = None in
     subst₂ (λ (fs es : List (Option ℕ)). Indexed [] fs es)
     (sym (c.fill.ensures.items (λ y h. search rules) ∙ ap (λ (n : ℕ). replicate n none) c.args.self.now.wide))
-    (sym c.truncate.ensures.items) indexed_none
+    (sym c.clear.ensures.items) indexed_none

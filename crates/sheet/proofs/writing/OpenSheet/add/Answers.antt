@@ -1,4 +1,4 @@
-use Rattle.std.proofs.Common.{◌≡◌, ℕ, List, [], ◌∷◌, ◌++◌, map, vec_items, sym, ap, ◌∙◌, subst, arith}
+use Rattle.std.proofs.Common.{◌≡◌, ℕ, List, Option, [], ◌∷◌, ◌++◌, map, vec_items, sym, ap, ◌∙◌, subst, arith}
 use mathlib.Core.Logic.{∥∥₁_map}
 use Rattle.std.proofs.lemmas.List.{length-map, map_push}
 use Rattle.sheet.specs.Rows.{shape}
@@ -23,9 +23,9 @@ invariant_of-self c =
     let index = c.push-2.new.self in
     let grown = rows_push (vec_items self.table.terms) (vec_items c.push.new.self.terms) c.args.term c.push.ensures.terms in
     let buckets : bs ++ (c.bucket_of.result ∷ []) ≡ map bucket (map shape (vec_items c.push.new.self.terms))
-    = ap (λ (b : ℕ). bs ++ (b ∷ [])) c.bucket_of.ensures.value ∙ sym (ap (map bucket) grown ∙ map_push bucket (rows_of self) (shape c.args.term)) in
+    = ap (λ (b : Option ℕ). bs ++ (b ∷ [])) c.bucket_of.ensures.value ∙ sym (ap (map bucket) grown ∙ map_push bucket (rows_of self) (shape c.args.term)) in
     record {
-      indexed = ∥∥₁_map self.indexed (λ x. subst (λ (cs : List ℕ). Indexed cs (vec_items index.latest) (vec_items index.earlier)) buckets (c.push-2.ensures bs x));
+      indexed = ∥∥₁_map self.indexed (λ x. subst (λ (cs : List (Option ℕ)). Indexed cs (vec_items index.latest) (vec_items index.earlier)) buckets (c.push-2.ensures bs x));
     }
 
 pub returns : goal.returns

@@ -1,12 +1,9 @@
-use Rattle.std.proofs.Common.{ℕ, List, map, vec_items, sym, ap, subst}
-use Rattle.sheet.specs.Rows.{shape}
-use Rattle.sheet.specs.Indexes.{bucket, Indexed}
-use Rattle.sheet.specs.declared.rows.Term.{Term}
+use Rattle.std.proofs.Common.{vec_items}
+use Rattle.sheet.proofs.Models.{indexed_blank}
 use Rattle.sheet.proofs.writing.OpenSheet.clear.Goals as goal
 
 pub invariant_of-self : goal.invariant_of-self
 invariant_of-self c =
-    let index = c.clear-2.new.self in record {
-      indexed = ∣ subst (λ (bs : List ℕ). Indexed bs (vec_items index.latest) (vec_items index.earlier))
-          (sym (ap (λ (ts : List Term). map bucket (map shape ts)) c.clear.ensures.terms)) c.clear-2.ensures ∣₁;
-    }
+    let table = c.clear.new.self in
+    let index = c.clear-2.new.self in
+    record { indexed = ∣ indexed_blank (vec_items table.terms) (vec_items index.latest) (vec_items index.earlier) c.clear.ensures.terms c.clear-2.ensures ∣₁ }

@@ -1,12 +1,9 @@
-use Rattle.std.proofs.Common.{ℕ, List, map, vec_items, sym, ap, subst}
-use Rattle.sheet.specs.Rows.{shape}
-use Rattle.sheet.specs.Indexes.{bucket, Indexed}
-use Rattle.sheet.specs.declared.rows.Term.{Term}
+use Rattle.std.proofs.Common.{vec_items}
+use Rattle.sheet.proofs.Models.{indexed_blank}
 use Rattle.sheet.proofs.writing.OpenSheet.new.Goals as goal
 
 pub invariant_of-result : goal.invariant_of-result
 invariant_of-result c =
-    let index = c.in_ok-index.index in record {
-      indexed = ∣ subst (λ (bs : List ℕ). Indexed bs (vec_items index.latest) (vec_items index.earlier))
-          (sym (ap (λ (ts : List Term). map bucket (map shape ts)) c.in_ok-table.ensures.1)) c.in_ok-index.ensures ∣₁;
-    }
+    let table = c.in_ok-table.table in
+    let index = c.in_ok-index.index in
+    record { indexed = ∣ indexed_blank (vec_items table.terms) (vec_items index.latest) (vec_items index.earlier) c.in_ok-table.ensures.1 c.in_ok-index.ensures ∣₁ }

@@ -1,10 +1,11 @@
-use Rattle.std.proofs.Common.{◌<◌, ◌≢◌, length, arith, length-set, get_or-set_other, get_or-set_same, below_more}
+use Rattle.std.proofs.Common.{◌≡◌, ℕ, get_or, ap, arith, rules}
 use Rattle.tags.proofs.partition.Partition.apart.Goals as goal
 
-pub loop-tag-preserved : goal.loop-tag-preserved
-loop-tag-preserved c = (
-  simp length-set c.loop-tag.invariant.0,
-  below_more _ _
-      (λ k h. let ne : k ≢ c.loop-tag.tag = omega arith in rw get_or-set_other (c.loop-tag.invariant.1 k h))
-      (let lt : c.loop-tag.tag < length c.loop-tag.lowest = omega arith in rw get_or-set_same),
-)
+pub returns : goal.returns
+returns c i h = let called = (c.from_fn.ensures.items.at i 0 h).2 in search rules
+
+pub invariant_of-result-clause-lowests : goal.invariant_of-result-clause-lowests
+invariant_of-result-clause-lowests c i h =
+    let called = (c.from_fn.ensures.items.at i 0 h).2 in
+    let here : get_or c.from_fn.result i 0 ≡ i = search rules in
+    (omega (arith, here), ap (λ (k : ℕ). get_or c.from_fn.result k 0) here)
