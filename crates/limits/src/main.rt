@@ -57,24 +57,25 @@ fn literals(rt: &HostRuntime, session: &mut Session<Switches>) -> io::Result<()>
 }
 
 // The 32nd and the 33rd scope, and one close too many.
-fn scopes(rt: &HostRuntime, session: &mut Session<Switches>) -> io::Result<()> {
+fn scopes(rt: &HostRuntime, session: &mut Session<Switches>) -> anyhow::Result<()> {
     for _ in 0..31 {
-        let _ = session.open();
+        session.open()?;
     }
     print(rt, "32nd scope", session.open())?;
     print(rt, "33rd scope", session.open())?;
     for _ in 0..31 {
-        let _ = session.close();
+        session.close()?;
     }
     print(rt, "32nd close", session.close())?;
-    print(rt, "33rd close", session.close())
+    print(rt, "33rd close", session.close())?;
+    Ok(())
 }
 
 // The 256th and the 257th rule, each of one equation of a switch, and the budgets around their trials.
-fn rules(rt: &HostRuntime, session: &mut Session<Switches>) -> io::Result<()> {
+fn rules(rt: &HostRuntime, session: &mut Session<Switches>) -> anyhow::Result<()> {
     print(rt, "open", session.open())?;
     for switch in 2..255 {
-        let _ = session.post(&[on(switch)]);
+        session.post(&[on(switch)])?;
     }
     print(rt, "256th rule", session.post(&[on(0)]))?;
     print(rt, "257th rule", session.post(&[on(0)]))?;
@@ -82,7 +83,8 @@ fn rules(rt: &HostRuntime, session: &mut Session<Switches>) -> io::Result<()> {
     print_ask(rt, session, 253)?;
     print_ask(rt, session, 254)?;
     print_ask(rt, session, u64::MAX)?;
-    print(rt, "close", session.close())
+    print(rt, "close", session.close())?;
+    Ok(())
 }
 
 // What is shown, and the refusals of choice and tell.

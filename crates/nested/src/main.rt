@@ -3,8 +3,7 @@
 
 #![tactic(auto)]
 
-use anyhow::anyhow;
-use logic::{Equation, Kind, TellingLogic};
+use logic::TellingLogic;
 use pair::Pair;
 use rules::Literal;
 use session::Session;
@@ -12,7 +11,6 @@ use sheet::OpenSheet;
 use std::io;
 use switches::Switches;
 use trees::Trees;
-use walk::Word;
 
 const BUDGET: u64 = 10;
 
@@ -23,49 +21,19 @@ const STEP: u8 = 1;
 
 type Guards = Pair<Trees, Switches>;
 
-// The equation of two terms, in the pair's numbers.
-fn terms(left: u16, right: u16) -> Equation {
-    Equation {
-        left: left.saturating_mul(2),
-        right: right.saturating_mul(2),
-    }
-}
-
+// The equation of two terms is to be true, in the pair's numbers.
 fn equal(left: u16, right: u16) -> Literal {
-    Literal::Equal(terms(left, right))
+    Literal::equal(left.saturating_mul(2), right.saturating_mul(2))
 }
 
+// It is to be false.
 fn denied(left: u16, right: u16) -> Literal {
-    Literal::Denied(terms(left, right))
+    Literal::denied(left.saturating_mul(2), right.saturating_mul(2))
 }
 
 // The switch of that number is on, in the pair's numbers.
 fn on(switch: u16) -> Literal {
-    Literal::Equal(Equation {
-        left: switch.saturating_mul(2).saturating_add(1),
-        right: 1,
-    })
-}
-
-fn symbol(sheet: &mut OpenSheet, arity: u64) -> anyhow::Result<u8> {
-    match sheet.symbol(arity) {
-        Ok(number) => Ok(number),
-        Err(_) => Err(anyhow!("the sheet takes no such symbol")),
-    }
-}
-
-fn name(sheet: &mut OpenSheet) -> anyhow::Result<u16> {
-    match sheet.name() {
-        Ok(number) => Ok(number),
-        Err(_) => Err(anyhow!("the sheet takes no further name")),
-    }
-}
-
-fn term(sheet: &mut OpenSheet, symbol: u8, arguments: &[u16]) -> anyhow::Result<u16> {
-    match sheet.term(symbol, arguments) {
-        Ok(number) => Ok(number),
-        Err(_) => Err(anyhow!("the sheet takes no such term")),
-    }
+    Literal::equal(switch.saturating_mul(2).saturating_add(1), 1)
 }
 
 // Closes the sheet: nothing more can be written into it.
@@ -78,18 +46,14 @@ fn begin(rt: &HostRuntime, sheet: OpenSheet) -> anyhow::Result<Session<Guards>> 
 fn post(rt: &HostRuntime, session: &mut Session<Guards>, rule: &[Literal]) -> io::Result<()> {
     match session.post(rule) {
         Ok(_) => Ok(()),
-        Err(refusal) => println!(rt; "  refused {}", refusal.number()),
+        Err(refusal) => println!(rt; "  {refusal}"),
     }
 }
 
 // Asks, and prints the answer with its choices.
 fn ask(rt: &HostRuntime, session: &mut Session<Guards>) -> io::Result<()> {
     let (word, trials) = session.ask(BUDGET);
-    match word {
-        Word::Found => println!(rt; "  found {trials}")?,
-        Word::None => println!(rt; "  none {trials}")?,
-        Word::Spent => println!(rt; "  spent {trials}")?,
-    }
+    println!(rt; "  {word} {trials}")?;
     for k in 0..2 {
         if let Ok((left, right)) = session.choice(k) {
             println!(rt; "  choice {k}: {left} = {right}")?;
@@ -101,9 +65,8 @@ fn ask(rt: &HostRuntime, session: &mut Session<Guards>) -> io::Result<()> {
 // What the shown example has for a number of the pair, under the name that the case gives it.
 fn tell(rt: &HostRuntime, session: &Session<Guards>, name: &str, number: u16) -> io::Result<()> {
     match session.tell(number) {
-        Ok((Kind::Tower, height)) => println!(rt; "  {name} up {height}"),
-        Ok((Kind::Term, term)) => println!(rt; "  {name} is term {term}"),
-        Err(refusal) => println!(rt; "  {name}: refused {}", refusal.number()),
+        Ok((kind, told)) => println!(rt; "  {name} {kind} {told}"),
+        Err(refusal) => println!(rt; "  {name}: {refusal}"),
     }
 }
 
@@ -111,8 +74,8 @@ fn tell(rt: &HostRuntime, session: &Session<Guards>, name: &str, number: u16) ->
 fn inside_itself(rt: &HostRuntime) -> anyhow::Result<()> {
     println!(rt; "x = step x")?;
     let mut sheet = OpenSheet::new(rt.alloc())?;
-    let x = name(&mut sheet)?;
-    let above = term(&mut sheet, STEP, &[x])?;
+    let x = sheet.name()?;
+    let above = sheet.term(STEP, &[x])?;
     let mut session = begin(rt, sheet)?;
     post(rt, &mut session, &[equal(x, above)])?;
     ask(rt, &mut session)?;
@@ -124,9 +87,9 @@ fn inside_itself(rt: &HostRuntime) -> anyhow::Result<()> {
 fn two_steps_apart(rt: &HostRuntime) -> anyhow::Result<()> {
     println!(rt; "x != step step x")?;
     let mut sheet = OpenSheet::new(rt.alloc())?;
-    let x = name(&mut sheet)?;
-    let above = term(&mut sheet, STEP, &[x])?;
-    let top = term(&mut sheet, STEP, &[above])?;
+    let x = sheet.name()?;
+    let above = sheet.term(STEP, &[x])?;
+    let top = sheet.term(STEP, &[above])?;
     let mut session = begin(rt, sheet)?;
     post(rt, &mut session, &[denied(x, top)])?;
     ask(rt, &mut session)?;
@@ -138,12 +101,12 @@ fn two_steps_apart(rt: &HostRuntime) -> anyhow::Result<()> {
 fn both_base(rt: &HostRuntime) -> anyhow::Result<()> {
     println!(rt; "cons x y = cons y base")?;
     let mut sheet = OpenSheet::new(rt.alloc())?;
-    let cons = symbol(&mut sheet, 2)?;
-    let x = name(&mut sheet)?;
-    let y = name(&mut sheet)?;
-    let first = term(&mut sheet, cons, &[x, y])?;
-    let base = term(&mut sheet, BASE, &[])?;
-    let second = term(&mut sheet, cons, &[y, base])?;
+    let cons = sheet.symbol(2)?;
+    let x = sheet.name()?;
+    let y = sheet.name()?;
+    let first = sheet.term(cons, &[x, y])?;
+    let base = sheet.term(BASE, &[])?;
+    let second = sheet.term(cons, &[y, base])?;
     let mut session = begin(rt, sheet)?;
     post(rt, &mut session, &[equal(first, second)])?;
     ask(rt, &mut session)?;
@@ -156,11 +119,11 @@ fn both_base(rt: &HostRuntime) -> anyhow::Result<()> {
 fn congruent(rt: &HostRuntime) -> anyhow::Result<()> {
     println!(rt; "x = y ; cons x x != cons y y")?;
     let mut sheet = OpenSheet::new(rt.alloc())?;
-    let cons = symbol(&mut sheet, 2)?;
-    let x = name(&mut sheet)?;
-    let y = name(&mut sheet)?;
-    let first = term(&mut sheet, cons, &[x, x])?;
-    let second = term(&mut sheet, cons, &[y, y])?;
+    let cons = sheet.symbol(2)?;
+    let x = sheet.name()?;
+    let y = sheet.name()?;
+    let first = sheet.term(cons, &[x, x])?;
+    let second = sheet.term(cons, &[y, y])?;
     let mut session = begin(rt, sheet)?;
     post(rt, &mut session, &[equal(x, y)])?;
     post(rt, &mut session, &[denied(first, second)])?;
@@ -172,13 +135,13 @@ fn congruent(rt: &HostRuntime) -> anyhow::Result<()> {
 fn no_half_stays(rt: &HostRuntime) -> anyhow::Result<()> {
     println!(rt; "cons x step y = cons base base | y = x")?;
     let mut sheet = OpenSheet::new(rt.alloc())?;
-    let cons = symbol(&mut sheet, 2)?;
-    let x = name(&mut sheet)?;
-    let y = name(&mut sheet)?;
-    let above = term(&mut sheet, STEP, &[y])?;
-    let first = term(&mut sheet, cons, &[x, above])?;
-    let base = term(&mut sheet, BASE, &[])?;
-    let second = term(&mut sheet, cons, &[base, base])?;
+    let cons = sheet.symbol(2)?;
+    let x = sheet.name()?;
+    let y = sheet.name()?;
+    let above = sheet.term(STEP, &[y])?;
+    let first = sheet.term(cons, &[x, above])?;
+    let base = sheet.term(BASE, &[])?;
+    let second = sheet.term(cons, &[base, base])?;
     let mut session = begin(rt, sheet)?;
     post(rt, &mut session, &[equal(first, second), equal(y, x)])?;
     ask(rt, &mut session)?;
@@ -191,12 +154,12 @@ fn no_half_stays(rt: &HostRuntime) -> anyhow::Result<()> {
 fn with_a_switch(rt: &HostRuntime) -> anyhow::Result<()> {
     println!(rt; "x = cons y nil | on p ; x != cons y nil")?;
     let mut sheet = OpenSheet::new(rt.alloc())?;
-    let cons = symbol(&mut sheet, 2)?;
-    let nil = symbol(&mut sheet, 0)?;
-    let x = name(&mut sheet)?;
-    let y = name(&mut sheet)?;
-    let end = term(&mut sheet, nil, &[])?;
-    let list = term(&mut sheet, cons, &[y, end])?;
+    let cons = sheet.symbol(2)?;
+    let nil = sheet.symbol(0)?;
+    let x = sheet.name()?;
+    let y = sheet.name()?;
+    let end = sheet.term(nil, &[])?;
+    let list = sheet.term(cons, &[y, end])?;
     let mut session = begin(rt, sheet)?;
     post(rt, &mut session, &[equal(x, list), on(0)])?;
     post(rt, &mut session, &[denied(x, list)])?;

@@ -3,9 +3,10 @@
 #![tactic(auto)]
 
 use beacon::Beacon;
-use logic::{Assumed, Equation, Kind, Logic, TellingLogic};
+use logic::{Assumed, Equation, Logic, TellingLogic};
 use pair::Pair;
 use sheet::{OpenSheet, Refusal};
+use std::fmt::Display;
 use std::io;
 use switches::Switches;
 use trees::Trees;
@@ -16,21 +17,16 @@ const BASE: u8 = 0;
 
 const STEP: u8 = 1;
 
-fn equation(left: u16, right: u16) -> Equation {
-    Equation { left, right }
-}
-
-fn print_symbol(rt: &HostRuntime, what: &str, answer: Result<u8, Refusal>) -> io::Result<()> {
+// Prints the number of a symbol or a term that a sheet has given, or its refusal.
+fn print_given<N: Display + Drop>(
+    rt: &HostRuntime,
+    what: &str,
+    kind: &str,
+    answer: Result<N, Refusal>,
+) -> io::Result<()> {
     match answer {
-        Ok(number) => println!(rt; "{what}: symbol {number}"),
-        Err(refusal) => println!(rt; "{what}: refused {}", refusal.number()),
-    }
-}
-
-fn print_term(rt: &HostRuntime, what: &str, answer: Result<u16, Refusal>) -> io::Result<()> {
-    match answer {
-        Ok(number) => println!(rt; "{what}: term {number}"),
-        Err(refusal) => println!(rt; "{what}: refused {}", refusal.number()),
+        Ok(number) => println!(rt; "{what}: {kind} {number}"),
+        Err(refusal) => println!(rt; "{what}: {refusal}"),
     }
 }
 
@@ -43,7 +39,7 @@ fn print_assumed<L: Logic>(
     match logic.assume(e) {
         Ok(Assumed::Taken) => println!(rt; "{what}: taken"),
         Ok(Assumed::Clash) => println!(rt; "{what}: clash"),
-        Err(refusal) => println!(rt; "{what}: refused {}", refusal.number()),
+        Err(refusal) => println!(rt; "{what}: {refusal}"),
     }
 }
 
@@ -54,56 +50,70 @@ fn print_told<L: TellingLogic>(
     number: u16,
 ) -> io::Result<()> {
     match logic.tell(number) {
-        Ok((Kind::Tower, height)) => println!(rt; "{what}: up {height}"),
-        Ok((Kind::Term, term)) => println!(rt; "{what}: is term {term}"),
-        Err(refusal) => println!(rt; "{what}: refused {}", refusal.number()),
+        Ok((kind, told)) => println!(rt; "{what}: {kind} {told}"),
+        Err(refusal) => println!(rt; "{what}: {refusal}"),
     }
 }
 
 // Symbols of arity 8 and 9, and the 16th and the 17th symbol.
 fn symbols(rt: &HostRuntime) -> anyhow::Result<()> {
     let mut sheet = OpenSheet::new(rt.alloc())?;
-    print_symbol(rt, "arity 8", sheet.symbol(8))?;
-    print_symbol(rt, "arity 9", sheet.symbol(9))?;
+    print_given(rt, "arity 8", "symbol", sheet.symbol(8))?;
+    print_given(rt, "arity 9", "symbol", sheet.symbol(9))?;
     for _ in 0..12 {
-        let _ = sheet.symbol(2);
+        sheet.symbol(2)?;
     }
-    print_symbol(rt, "16th symbol", sheet.symbol(0))?;
-    print_symbol(rt, "17th symbol", sheet.symbol(0))?;
-    print_symbol(rt, "17th symbol, of arity 9", sheet.symbol(9))?;
-    print_term(rt, "symbol 16", sheet.term(16, &[]))?;
-    print_term(rt, "base of an argument", sheet.term(BASE, &[0]))?;
-    print_term(rt, "step of no term", sheet.term(STEP, &[0]))?;
+    print_given(rt, "16th symbol", "symbol", sheet.symbol(0))?;
+    print_given(rt, "17th symbol", "symbol", sheet.symbol(0))?;
+    print_given(rt, "17th symbol, of arity 9", "symbol", sheet.symbol(9))?;
+    print_given(rt, "symbol 16", "term", sheet.term(16, &[]))?;
+    print_given(rt, "base of an argument", "term", sheet.term(BASE, &[0]))?;
+    print_given(rt, "step of no term", "term", sheet.term(STEP, &[0]))?;
     Ok(())
 }
 
 // A sheet of 1,024 terms, a tower over base, and one term more, new and old; then the logic on it.
 fn terms(rt: &HostRuntime) -> anyhow::Result<()> {
     let mut sheet = OpenSheet::new(rt.alloc())?;
-    let mut top = 0;
-    if let Ok(base) = sheet.term(BASE, &[]) {
-        top = base;
-    }
+    let mut top = sheet.term(BASE, &[])?;
     for _ in 0..1022 {
-        if let Ok(number) = sheet.term(STEP, &[top]) {
-            top = number;
-        }
+        top = sheet.term(STEP, &[top])?;
     }
-    print_term(rt, "1,024th term", sheet.name())?;
-    print_term(rt, "1,025th term, a name", sheet.name())?;
-    print_term(rt, "1,025th term, compound", sheet.term(STEP, &[top]))?;
-    print_term(rt, "an old term in a full sheet", sheet.term(STEP, &[0]))?;
+    print_given(rt, "1,024th term", "term", sheet.name())?;
+    print_given(rt, "1,025th term, a name", "term", sheet.name())?;
+    print_given(
+        rt,
+        "1,025th term, compound",
+        "term",
+        sheet.term(STEP, &[top]),
+    )?;
+    print_given(
+        rt,
+        "an old term in a full sheet",
+        "term",
+        sheet.term(STEP, &[0]),
+    )?;
     let mut trees = Trees::new(rt.alloc(), sheet)?;
     print_told(rt, "the free name", &trees, 1023)?;
-    print_assumed(rt, "terms 1023 and 1024", &mut trees, equation(1023, 1024))?;
-    print_assumed(rt, "the name and the top", &mut trees, equation(1023, 1022))?;
+    print_assumed(
+        rt,
+        "terms 1023 and 1024",
+        &mut trees,
+        Equation::new(1023, 1024),
+    )?;
+    print_assumed(
+        rt,
+        "the name and the top",
+        &mut trees,
+        Equation::new(1023, 1022),
+    )?;
     print_told(rt, "the bound name", &trees, 1023)?;
     print_told(rt, "no name", &trees, 1022)?;
     print_assumed(
         rt,
         "the top and the term below it",
         &mut trees,
-        equation(1022, 1021),
+        Equation::new(1022, 1021),
     )?;
     Ok(())
 }
@@ -112,27 +122,37 @@ fn terms(rt: &HostRuntime) -> anyhow::Result<()> {
 fn standing(rt: &HostRuntime) -> anyhow::Result<()> {
     let heap = rt.alloc();
     let mut sheet = OpenSheet::new(heap)?;
-    let _ = sheet.name();
+    sheet.name()?;
     let mut trees = Trees::new(heap, sheet)?;
     for _ in 0..255 {
-        let _ = trees.assume(equation(0, 0));
+        trees.assume(Equation::new(0, 0))?;
     }
-    print_assumed(rt, "256th equation", &mut trees, equation(0, 0))?;
-    print_assumed(rt, "257th equation", &mut trees, equation(0, 0))?;
-    print_assumed(rt, "257th equation, of no term", &mut trees, equation(0, 1))?;
+    print_assumed(rt, "256th equation", &mut trees, Equation::new(0, 0))?;
+    print_assumed(rt, "257th equation", &mut trees, Equation::new(0, 0))?;
+    print_assumed(
+        rt,
+        "257th equation, of no term",
+        &mut trees,
+        Equation::new(0, 1),
+    )?;
     let mut both = Pair::new(heap, trees, Switches::new(heap)?)?;
     println!(rt; "standing in a new pair: {}", both.standing())?;
     for switch in 0..128u16 {
-        let _ = both.assume(equation(0, 0));
-        let _ = both.assume(equation(switch * 2 + 1, 1));
+        both.assume(Equation::new(0, 0))?;
+        both.assume(Equation::new(switch * 2 + 1, 1))?;
     }
     println!(rt; "standing in the pair: {}", both.standing())?;
-    print_assumed(rt, "257th equation of the pair", &mut both, equation(0, 0))?;
+    print_assumed(
+        rt,
+        "257th equation of the pair",
+        &mut both,
+        Equation::new(0, 0),
+    )?;
     print_assumed(
         rt,
         "257th equation, of mixed numbers",
         &mut both,
-        equation(0, 1),
+        Equation::new(0, 1),
     )?;
     both.back(1);
     println!(rt; "standing after back: {}", both.standing())?;
@@ -142,27 +162,32 @@ fn standing(rt: &HostRuntime) -> anyhow::Result<()> {
 // Two towers of 30 pairs over two names, t = cons t t: 31 terms stand for a billion leaves on each side.
 fn shared(rt: &HostRuntime) -> anyhow::Result<()> {
     let mut sheet = OpenSheet::new(rt.alloc())?;
-    let _ = sheet.symbol(2);
-    let _ = sheet.name();
-    let _ = sheet.name();
-    let mut left = 0;
-    let mut right = 1;
+    let cons = sheet.symbol(2)?;
+    let mut left = sheet.name()?;
+    let mut right = sheet.name()?;
     for _ in 0..30 {
-        if let Ok(number) = sheet.term(2, &[left, left]) {
-            left = number;
-        }
-        if let Ok(number) = sheet.term(2, &[right, right]) {
-            right = number;
-        }
+        left = sheet.term(cons, &[left, left])?;
+        right = sheet.term(cons, &[right, right])?;
     }
     let mut trees = Trees::new(rt.alloc(), sheet)?;
-    println!(rt; "forced before: {}", trees.forced(equation(left, right)))?;
-    print_assumed(rt, "the leaves", &mut trees, equation(0, 1))?;
-    println!(rt; "forced after: {}", trees.forced(equation(left, right)))?;
+    println!(rt;
+        "forced before: {}",
+        trees.forced(Equation::new(left, right))
+    )?;
+    print_assumed(rt, "the leaves", &mut trees, Equation::new(0, 1))?;
+    println!(rt;
+        "forced after: {}",
+        trees.forced(Equation::new(left, right))
+    )?;
     trees.back(0);
-    print_assumed(rt, "the tops", &mut trees, equation(left, right))?;
-    println!(rt; "leaves forced: {}", trees.forced(equation(0, 1)))?;
-    print_assumed(rt, "a leaf and the top", &mut trees, equation(0, right))?;
+    print_assumed(rt, "the tops", &mut trees, Equation::new(left, right))?;
+    println!(rt; "leaves forced: {}", trees.forced(Equation::new(0, 1)))?;
+    print_assumed(
+        rt,
+        "a leaf and the top",
+        &mut trees,
+        Equation::new(0, right),
+    )?;
     Ok(())
 }
 
