@@ -41,6 +41,11 @@ product_positive [] (r ∷ R) = omega (arith, times (width r) (unused_product []
 product_positive (true ∷ ms) (r ∷ R) = product_positive ms R
 product_positive (false ∷ ms) (r ∷ R) = omega (arith, times (width r) (unused_product ms R), product_positive ms R)
 
+-- where no rule is marked, none has to be used
+pub used_nil : (t : Theory) (S : List Equation) (R : List (List Literal)) → Used t S [] R
+used_nil t S [] = tt
+used_nil t S (r ∷ R) = tt
+
 module _ (t : Theory) (S : List Equation) where
   pub used_more : (x : Equation) (ms : List Bool) (R : List (List Literal)) → Used t S ms R → Used t (S ++ (x ∷ [])) ms R
   used_more x ms [] u = tt
@@ -50,31 +55,19 @@ module _ (t : Theory) (S : List Equation) where
 
   pub used_mark : (ms : List Bool) (R : List (List Literal)) (k : ℕ) → Used t S ms R → (NoneForced t S (equations (get_or R k [])) → ⊥) → Used t S (mark ms k) R
   used_mark ms [] k u f = tt
-  used_mark [] (r ∷ R) zero u f = (f, used_none R)
-    where
-      used_none : (R : List (List Literal)) → Used t S [] R
-      used_none [] = tt
-      used_none (r ∷ R) = tt
-  used_mark [] (r ∷ R) (suc k) u f = used_mark [] R k (used_none R) f
-    where
-      used_none : (R : List (List Literal)) → Used t S [] R
-      used_none [] = tt
-      used_none (r ∷ R) = tt
+  used_mark [] (r ∷ R) zero u f = (f, used_nil t S R)
+  used_mark [] (r ∷ R) (suc k) u f = used_mark [] R k (used_nil t S R) f
   used_mark (true ∷ ms) (r ∷ R) zero u f = (f, u.1)
   used_mark (true ∷ ms) (r ∷ R) (suc k) u f = (u.0, used_mark ms R k u.1 f)
   used_mark (false ∷ ms) (r ∷ R) zero u f = (f, u)
   used_mark (false ∷ ms) (r ∷ R) (suc k) u f = used_mark ms R k u f
-
-  used_nil : (R : List (List Literal)) → Used t S [] R
-  used_nil [] = tt
-  used_nil (r ∷ R) = tt
 
   pub product_mark : (ms : List Bool) (R : List (List Literal)) (k : ℕ) → k < length R → Used t S ms R → NoneForced t S (equations (get_or R k [])) →
       unused_product ms R ≡ (1 + width (get_or R k [])) * unused_product (mark ms k) R
   product_mark ms [] k h u f = absurd (omega arith)
   product_mark [] (r ∷ R) zero h u f = refl
   product_mark [] (r ∷ R) (suc k) h u f =
-      ap (λ n. (1 + width r) * n) (product_mark [] R k (omega arith) (used_nil R) f) ∙ mul_left_comm (1 + width r) (1 + width (get_or R k [])) (unused_product (mark [] k) R)
+      ap (λ n. (1 + width r) * n) (product_mark [] R k (omega arith) (used_nil t S R) f) ∙ mul_left_comm (1 + width r) (1 + width (get_or R k [])) (unused_product (mark [] k) R)
   product_mark (true ∷ ms) (r ∷ R) zero h u f = absurd (u.0 f)
   product_mark (true ∷ ms) (r ∷ R) (suc k) h u f = product_mark ms R k (omega arith) u.1 f
   product_mark (false ∷ ms) (r ∷ R) zero h u f = refl
@@ -85,7 +78,7 @@ module _ (t : Theory) (S : List Equation) where
       unused ms R ≡ suc (unused (mark ms k) R)
   unused_mark ms [] k h u f = absurd (omega arith)
   unused_mark [] (r ∷ R) zero h u f = refl
-  unused_mark [] (r ∷ R) (suc k) h u f = ap suc (unused_mark [] R k (omega arith) (used_nil R) f)
+  unused_mark [] (r ∷ R) (suc k) h u f = ap suc (unused_mark [] R k (omega arith) (used_nil t S R) f)
   unused_mark (true ∷ ms) (r ∷ R) zero h u f = absurd (u.0 f)
   unused_mark (true ∷ ms) (r ∷ R) (suc k) h u f = unused_mark ms R k (omega arith) u.1 f
   unused_mark (false ∷ ms) (r ∷ R) zero h u f = refl

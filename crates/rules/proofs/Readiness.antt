@@ -11,7 +11,7 @@ use Rattle.rules.specs.Rules.{equations, HadAll}
 use Rattle.rules.specs.Openness.{TakenRule}
 use Rattle.rules.specs.Marks.{Used, mark, Ready}
 use Rattle.rules.proofs.Basics.{In}
-use Rattle.rules.proofs.Counts.{unused_none, unused_mark, used_next}
+use Rattle.rules.proofs.Counts.{used_nil, unused_none, unused_mark, used_next}
 use Rattle.rules.proofs.Moved.{none_back, rules_moved}
 
 pub ready_room : (t : Theory) (R : List (List Literal)) (S : List Equation) (d k : ℕ) → Ready t R S d → TakenRule t S R k → (0 < d) × (length S < 256)
@@ -31,13 +31,9 @@ ready_next t R S d k e y p i =
       room = omega (arith, less, y.room, length-append S (e ∷ []));
     }
 
-used_nil : (t : Theory) (R : List (List Literal)) → Used t [] [] R
-used_nil t [] = tt
-used_nil t (r ∷ R) = tt
-
 pub ready_start : (t : Theory) (R : List (List Literal)) (d : ℕ) → HadAll t R → length R ≤ 256 → length R ≤ d → Ready t R [] d
 ready_start t R d had few deep =
-    record { had = had; marks = []; used = used_nil t R; deep = omega (arith, unused_none R); room = omega (arith, unused_none R) }
+    record { had = had; marks = []; used = used_nil t [] R; deep = omega (arith, unused_none R); room = omega (arith, unused_none R) }
 
 used_moved : (t u : Theory) → Same t u → (S : List Equation) (ms : List Bool) (R : List (List Literal)) → Used t S ms R → Used u S ms R
 used_moved t u s S ms [] y = tt

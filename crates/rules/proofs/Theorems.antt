@@ -1,6 +1,6 @@
 -- The laws of the walk. Assumes nothing.
 use mathlib.Core.Path.{◌≡◌, refl, sym, subst}
-use mathlib.Core.List.{List, [], ◌∷◌}
+use mathlib.Core.List.{List, []}
 use Prim.Native.Nat.{ℕ, ◌+◌, ◌<◌, ◌≤◌}
 use native.Mathlib.Omega.{arith}
 use Rattle.logic.specs.Theories.{Theory}
@@ -11,16 +11,12 @@ use Rattle.rules.specs.Walks.End.{found, dead, spent}
 use Rattle.rules.specs.Laws.{DeadLaw, FoundLaw, TrialsLaw, OneLaw, BudgetLaw, SpentLaw, Laws}
 use Rattle.rules.proofs.Sound.{dead_walk, settled_walk, met_all, found≢spent, dead≢spent}
 use Rattle.rules.proofs.Fixed.{one_walk, other_walk}
-use Rattle.rules.specs.Marks.{Used, unused_product, unused}
-use Rattle.rules.proofs.Counts.{product_none, unused_none, Counted, count_walk}
-
-used_nil : (t : Theory) (R : List (List Literal)) → Used t [] [] R
-used_nil t [] = tt
-used_nil t (r ∷ R) = tt
+use Rattle.rules.specs.Marks.{unused_product, unused}
+use Rattle.rules.proofs.Counts.{used_nil, product_none, unused_none, Counted, count_walk}
 
 pub whole_walk : (t : Theory) (R : List (List Literal)) (b m : ℕ) (o : End) → HadAll t R → Walk t R b [] 0 m o
     → Counted 1 b 0 m o (unused_product [] R) (0 + unused [] R)
-whole_walk t R b m o had w = count_walk t R b had w [] (used_nil t R) (omega arith)
+whole_walk t R b m o had w = count_walk t R b had w [] (used_nil t [] R) (omega arith)
 
 dead_law : (t : Theory) → DeadLaw t
 dead_law t R b m v w own met = dead_walk t w R b own met v refl tt
