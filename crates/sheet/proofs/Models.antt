@@ -1,14 +1,13 @@
 -- What holds of every sheet in the writing, and of every term. Assumes nothing.
-use Rattle.std.proofs.Common.{◌≡◌, ℕ, ◌<◌, List, [], Option, map, length, get_or, vec_items, sym, ap, subst}
-use Rattle.terms.specs.Sheets.{Row, row, Sheet}
+use Rattle.std.proofs.Common.{◌≡◌, ℕ, List, [], Option, map, vec_items, sym, ap, subst}
+use Rattle.terms.specs.Sheets.{Sheet}
 use Rattle.sheet.specs.declared.rows.Term.{Term}
 use Rattle.sheet.specs.declared.rows.Term.TheVariants as V
 use Rattle.sheet.specs.declared.table.Table.{Table}
 use Rattle.sheet.specs.declared.writing.OpenSheet.{OpenSheet}
 use Rattle.sheet.specs.Rows.{shape, Formed}
-use Rattle.sheet.specs.Models.{arities_of, rows_of, Read}
+use Rattle.sheet.specs.Models.{arities_of, rows_of}
 use Rattle.sheet.specs.Indexes.{bucket, Indexed}
-use Rattle.sheet.proofs.Shapes.{row_read}
 use Rattle.sheet.proofs.Sheets.{sheet_plain}
 use Rattle.sheet.proofs.Indexes.{indexed_plain}
 
@@ -33,7 +32,3 @@ indexed_blank ts latest earlier none x =
 pub formed : (t : Term) → Formed t
 formed V.Name = tt
 formed (V.Over c) = (c.small, c.long)
-
--- a term that was read as the n-th, and turned out to be u, is that of the n-th row
-pub read_row : (s : OpenSheet) (ts : List Term) (n : ℕ) (t u : Term) → Read s ts → n < length ts → t ≡ get_or ts n t → t ≡ u → row (rows_of s) n ≡ shape u
-read_row s ts n t u x h read is = subst (λ (rs : List Row). row rs n ≡ shape u) x.rows (row_read ts n t u h read is)

@@ -1,14 +1,10 @@
 -- The rows of a list of terms. Assumes nothing.
 use Rattle.std.proofs.Common.{◌≡◌, ℕ, ◌<◌, List, [], ◌∷◌, ◌++◌, map, length, get_or, sym, ap, ◌∙◌}
-use Rattle.std.proofs.lemmas.List.{get_or-map, get_or_read, length-map, map_push}
+use Rattle.std.proofs.lemmas.List.{get_or-map, get_or_read, map_push}
 use Rattle.terms.specs.Sheets.{Row, row}
 use Rattle.sheet.specs.Rows.{shape}
 use Rattle.sheet.specs.declared.rows.Term.{Term}
 use Rattle.sheet.specs.declared.rows.Term.TheVariants as V
-
--- as many as the terms
-pub rows_many : (ts us : List Term) → us ≡ ts → length us ≡ length (map shape ts)
-rows_many ts us same = ap length same ∙ sym (length-map ts shape)
 
 -- with one term more
 pub rows_push : (ts us : List Term) (t : Term) → us ≡ ts ++ (t ∷ []) → map shape us ≡ map shape ts ++ (shape t ∷ [])

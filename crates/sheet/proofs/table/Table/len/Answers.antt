@@ -4,8 +4,7 @@ use Rattle.sheet.specs.Rows.{shape}
 use Rattle.sheet.proofs.Models.{table_sheet}
 use Rattle.sheet.proofs.table.Table.len.Goals as goal
 
-pub returns : goal.returns
-returns c =
+pub returns-clause-few : goal.returns-clause-few
+returns-clause-few c =
     let self = c.args.self.now in
-    let long = length-map (vec_items self.terms) shape in
-    record { count = omega (arith, self.terms.ok.0); few = omega (arith, self.terms.ok.0, (table_sheet self).few) }
+    omega (arith, length-map (vec_items self.terms) shape, self.terms.ok.0, (table_sheet self).few)

@@ -8,13 +8,10 @@ use Rattle.sheet.proofs.Shapes.{rows_push}
 use Rattle.sheet.proofs.Models.{indexed_rows}
 use Rattle.sheet.proofs.writing.OpenSheet.add.Goals as goal
 
-pub push-requires-2 : goal.push-requires-2
-push-requires-2 c =
+pub push-requires-2-clause-few : goal.push-requires-2-clause-few
+push-requires-2-clause-few c =
     let self = c.args.self.now in
-    record {
-      within = c.bucket_of.ensures.within;
-      few = omega (arith, (indexed_rows self).long, length-map (rows_of self) bucket, c.len-number.ensures.count, c.len-number.ensures.few, c.if-number-eq-TERMS.false);
-    }
+    omega (arith, (indexed_rows self).long, length-map (rows_of self) bucket, c.len-number.ensures.count, c.len-number.ensures.few, c.if-number-eq-TERMS.false)
 
 pub invariant_of-self : goal.invariant_of-self
 invariant_of-self c =
@@ -28,13 +25,9 @@ invariant_of-self c =
       indexed = ∥∥₁_map self.indexed (λ x. subst (λ (cs : List (Option ℕ)). Indexed cs (vec_items index.latest) (vec_items index.earlier)) buckets (c.push-2.ensures bs x));
     }
 
-pub returns : goal.returns
-returns c =
-    record {
-      adds = (
-        omega (arith, c.len-number.ensures.count, c.len-number.ensures.few, c.if-number-eq-TERMS.false),
-        c.len-number.ensures.count,
-        rows_push (vec_items c.args.self.now.table.terms) (vec_items c.push.new.self.terms) c.args.term c.push.ensures.terms,
-      );
-      arities = c.push.ensures.arities;
-    }
+pub returns-clause-adds : goal.returns-clause-adds
+returns-clause-adds c = (
+  omega (arith, c.len-number.ensures.count, c.len-number.ensures.few, c.if-number-eq-TERMS.false),
+  c.len-number.ensures.count,
+  rows_push (vec_items c.args.self.now.table.terms) (vec_items c.push.new.self.terms) c.args.term c.push.ensures.terms,
+)
