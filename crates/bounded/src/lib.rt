@@ -8,6 +8,9 @@ ghost use Rattle.bounded.specs.Bounds.{Pushes, Pops};
 
 use std::alloc::{AllocError, Global};
 
+#[cfg(test)]
+mod tests;
+
 // There is no room for one item more.
 #[derive(Clone, Copy, PartialEq, Eq, Debug)]
 pub struct Full;

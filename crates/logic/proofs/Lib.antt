@@ -1,3 +1,4 @@
 pub mod Towers
 pub mod Sames
 pub mod Trues
+pub mod Lists

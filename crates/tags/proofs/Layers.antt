@@ -3,11 +3,12 @@ use Rattle.std.proofs.Common.{◌≡◌, ℕ, ◌+◌, ◌<◌, ◌≤◌, List,
 use Rattle.std.specs.List.{take-map}
 use Rattle.std.proofs.lemmas.List.{get_or-map, get_or-take, length-map, length_push, map_push, take-append-le, take-take, take_all}
 use Rattle.logic.specs.declared.Equation.{Equation}
+use Rattle.logic.proofs.Lists.{each_push}
 use Rattle.tags.specs.Partitions.{Exact, joining}
 use Rattle.tags.specs.Layers.{tables, newest, Layers}
 use Rattle.tags.specs.LayersLemmas.{newest_exact}
 use Rattle.tags.specs.declared.partition.Partition.{Partition}
-use Rattle.tags.proofs.Partitions.{each_push, exact_joined}
+use Rattle.tags.proofs.Partitions.{exact_joined}
 
 -- the partition that was read as the newest has the newest table
 pub newest_read : (es : List Equation) (ps : List Partition) (k : ℕ) (p : Partition) → k ≡ length es → length ps ≡ length es + 1

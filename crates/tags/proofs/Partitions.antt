@@ -1,23 +1,14 @@
 -- The table of a partition, as equations are taken. Assumes nothing.
-use Rattle.std.proofs.Common.{◌≡◌, ℕ, ◌<◌, min, max, cond, eqb, ◌⊎◌, List, [], ◌∷◌, ◌++◌, length, get_or, sym, ap, ◌∙◌, subst, inl, inr, arith}
-use Rattle.std.proofs.lemmas.List.{get_or_append_left, get_or_push, get_or-map, length_push}
+use Rattle.std.proofs.Common.{◌≡◌, ℕ, ◌<◌, min, max, cond, eqb, List, [], ◌∷◌, ◌++◌, length, get_or, sym, ap, ◌∙◌, arith}
+use Rattle.std.proofs.lemmas.List.{get_or-map}
 use Rattle.std.proofs.lemmas.Bool.Decides.{nat_tests}
 use Rattle.logic.specs.Trees.{World, Tree}
 use Rattle.logic.specs.Theories.{AllTrue}
 use Rattle.logic.specs.declared.Equation.{Equation}
+use Rattle.logic.proofs.Lists.{each_push}
 use Rattle.logic.proofs.Trues.{all_older, all_newest}
 use Rattle.tags.specs.Tags.{tags, agree}
 use Rattle.tags.specs.Partitions.{Exact, joining}
-
--- what each element has at its place, and one more at the end, each has with that one
-pub each_push : {X : Type 0} (P : ℕ → X → Type 0) (xs : List X) (x d : X) → ((k : ℕ) → k < length xs → P k (get_or xs k d)) → P (length xs) x
-    → (k : ℕ) → k < length (xs ++ (x ∷ [])) → P k (get_or (xs ++ (x ∷ [])) k d)
-each_push {X} P xs x d old new k h =
-    let place : (k < length xs) ⊎ (length xs ≡ k) = grind (arith, length_push xs x) in
-    elim place [
-      | inl less ↦ subst (λ (y : X). P k y) (sym (get_or_append_left xs (x ∷ []) d k less)) (old k less)
-      | inr last ↦ subst (λ (y : X). P k y) (sym (get_or_push xs x d k last)) (subst (λ (j : ℕ). P j x) last new)
-    ]
 
 -- with nothing standing each tag is apart
 pub exact_apart : (ls : List ℕ) → ((i : ℕ) → i < 1024 → get_or ls i 0 ≡ i) → Exact [] ls
