@@ -6,3 +6,4 @@ pub mod Written
 pub mod Layering
 pub mod Preparing
 pub mod Tells
+pub mod Counted

@@ -1,10 +1,11 @@
 -- What the logic of trees has: the theory of its sheet, its standing equations, and their tables. Assumes nothing.
-use Rattle.std.specs.Prelude.{◌≡◌, ℕ, ◌+◌, ◌*◌, cond, List, [], ◌∷◌, ◌++◌, length, vec_items, vec_len, nat_lt, slice_index}
+use Rattle.std.specs.Prelude.{◌≡◌, ℕ, ◌+◌, ◌*◌, Bool, not, cond, ◌&&◌, List, [], ◌∷◌, ◌++◌, length, vec_items, vec_len, nat_lt, slice_index}
 use Rattle.logic.specs.Trees.{World}
 use Rattle.logic.specs.Theories.{Theory}
 use Rattle.logic.specs.Tellings.{Told, Telling}
 use Rattle.logic.specs.Tellings.Told.{told}
 use Rattle.logic.specs.declared.Equation.{Equation}
+use Rattle.groups.specs.Tables.{leads}
 use Rattle.terms.specs.Sheets.{Row}
 use Rattle.terms.specs.Trees.{trees, tree_telling}
 use Rattle.classes.specs.Classes.{class, Settled}
@@ -68,3 +69,7 @@ Prepared h e =
 abbrev pub told_by_table : List Row → List ℕ → List ℕ → ℕ → Told
 told_by_table rs ls hs a =
     cond (nat_lt (slice_index hs (class ls a)) (length rs)) (told 1 (slice_index hs (class ls a))) (told 0 (free_group rs ls hs a * length rs))
+
+-- Whether a term leads a class that has only names, by a table and its heads.
+abbrev pub leads_names : List ℕ → List ℕ → ℕ → Bool
+leads_names ls hs m = leads ls m && not (nat_lt (slice_index hs m) (length ls))

@@ -125,9 +125,9 @@ fn part_terms(terms: &[Term], tables: &mut [u16], heads: &mut [u16])
     ensures { Alone (length terms.now) (rows terms.now) tables.new heads.new (length terms.now) }
 {
     let none = terms.len();
-    for n in 0..none {
+    for (n, term) in terms.iter().enumerate() {
         tables[n] = n as u16;
-        heads[n] = own_head(terms[n], n as u16, none as u16);
+        heads[n] = own_head(*term, n as u16, none as u16);
     }
 }
 

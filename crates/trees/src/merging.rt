@@ -57,13 +57,10 @@ fn alike(terms: &[Term], a: u16, b: u16) -> bool
     requires { (a < length terms.now) × (b < length terms.now) }
     ensures { result ≡ similar (row (rows terms.now) a) (row (rows terms.now) b) }
 {
-    let Some(first) = compound(terms, a) else {
-        return false;
-    };
-    let Some(second) = compound(terms, b) else {
-        return false;
-    };
-    first.symbol == second.symbol && first.arity == second.arity
+    match (compound(terms, a), compound(terms, b)) {
+        (Some(first), Some(second)) => first.symbol == second.symbol && first.arity == second.arity,
+        _ => false,
+    }
 }
 
 // How many arguments a term has.
@@ -72,10 +69,7 @@ pub(crate) fn arity(terms: &[Term], a: u16) -> usize
     ensures count { result ≡ length (arguments_of terms.now a) }
     ensures small { result ≤ 8 }
 {
-    match compound(terms, a) {
-        None => 0,
-        Some(compound) => compound.arity as usize,
-    }
+    compound(terms, a).map_or(0, |compound| usize::from(compound.arity))
 }
 
 // One of a term's arguments.

@@ -17,15 +17,6 @@ use logic::Equation;
 use sheet::{OpenSheet, Term};
 use unify::Mark;
 
-// Writes a value into each entry.
-fn fill(entries: &mut [u16], value: u16)
-    ensures { (k : ℕ) → k < length entries.new → slice_index entries.new k ≡ value }
-{
-    for place in entries.iter_mut() {
-        *place = value;
-    }
-}
-
 // Notes a term at a key, unless a lower one stands there.
 fn note(entries: &mut [u16], key: u16, term: u16)
     requires { key < length entries.old }
@@ -44,11 +35,11 @@ fn lower(table: &mut [u16], marks: &[Mark], lowest: &mut [u16])
     requires numbers { (a : ℕ) → a < length table.old → number_of table.old marks.now a < length table.old }
     ensures { Lows (length table.old) (number_of table.old marks.now) table.new }
 {
-    fill(lowest, table.len() as u16);
-    for a in 0..table.len() {
-        let number = number(marks, table[a]);
+    lowest.fill(table.len() as u16);
+    for (a, class) in table.iter_mut().enumerate() {
+        let number = number(marks, *class);
         note(lowest, number, a as u16);
-        table[a] = lowest[number as usize];
+        *class = lowest[number as usize];
     }
 }
 
@@ -67,10 +58,10 @@ fn find_heads(terms: &[Term], table: &[u16], heads: &mut [u16])
     requires classes { (a : ℕ) → a < length table.now → slice_index table.now a < length terms.now }
     ensures { Heads (rows terms.now) table.now heads.new }
 {
-    fill(heads, terms.len() as u16);
-    for a in 0..terms.len() {
+    heads.fill(terms.len() as u16);
+    for (a, class) in table.iter().enumerate() {
         if is_compound(terms, a as u16) {
-            note(heads, table[a], a as u16);
+            note(heads, *class, a as u16);
         }
     }
 }

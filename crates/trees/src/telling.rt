@@ -3,13 +3,12 @@
 ghost use Rattle.std.specs.Prelude.{◌≡◌, ℕ, suc, ◌<◌, ◌≤◌, true, false, not, ◌&&◌, List, length, ◌≢◌};
 ghost use Rattle.logic.specs.Tellings.{kind_number};
 ghost use Rattle.logic.specs.Tellings.Told.{told};
-ghost use Rattle.groups.specs.Tables.{leads, tally};
+ghost use Rattle.std.specs.List.{count_by, range_with_len};
 ghost use Rattle.terms.specs.Sheets.{Row, row};
 ghost use Rattle.classes.specs.Classes.{class, Lowest};
-ghost use Rattle.classes.specs.Worlds.{unbound};
 ghost use Rattle.sheet.specs.Rows.{shape};
 ghost use Rattle.trees.specs.Terms.{rows};
-ghost use Rattle.trees.specs.Models.{told_by_table};
+ghost use Rattle.trees.specs.Models.{leads_names, told_by_table};
 
 use logic::Kind;
 use sheet::Term;
@@ -19,10 +18,7 @@ pub(crate) fn is_name(terms: &[Term], number: u16) -> bool
     ensures yes { result ≡ true → (number < length terms.now) × (row (rows terms.now) number ≡ Row.name) }
     ensures no { result ≡ false → number < length terms.now → row (rows terms.now) number ≢ Row.name }
 {
-    if number as usize >= terms.len() {
-        return false;
-    }
-    names(terms[number as usize])
+    (number as usize) < terms.len() && names(terms[number as usize])
 }
 
 // Whether the term is a name.
@@ -30,10 +26,7 @@ fn names(term: Term) -> bool
     ensures yes { result ≡ true → shape term ≡ Row.name }
     ensures no { result ≡ false → shape term ≢ Row.name }
 {
-    match term {
-        Term::Name => true,
-        Term::Over(_) => false,
-    }
+    matches!(term, Term::Name)
 }
 
 // What is told of a name: the head of its class, or else the tower of its group.
@@ -48,36 +41,29 @@ pub(crate) fn told_by(table: &[u16], heads: &[u16], name: u16) -> (Kind, u32)
     let lead = table[name as usize];
     let head = heads[lead as usize];
     if (head as usize) < n {
-        return (Kind::Term, head as u32);
+        return (Kind::Term, u32::from(head));
     }
-    (Kind::Tower, group(table, heads, lead) * n as u32)
+    let group = earlier_groups(table, heads, lead) + 1;
+    (Kind::Tower, (group * n) as u32)
 }
 
-// The number of a class among those that have only names, counted from 1 by lowest member.
-fn group(table: &[u16], heads: &[u16], lead: u16) -> u32
-    requires few { length table.now ≤ 1024 }
+// How many classes that have only names have a lowest member below a term.
+fn earlier_groups(table: &[u16], heads: &[u16], lead: u16) -> usize
     requires long { length heads.now ≡ length table.now }
     requires lead { lead < length table.now }
-    ensures value { (rs : List Row) → length rs ≡ length table.now → result ≡ suc (tally (λ m. leads table.now m && unbound rs table.now heads.now m) lead) }
-    ensures within { result ≤ suc lead }
+    ensures value { result ≡ count_by (leads_names table.now heads.now) (range_with_len 0 lead) }
+    ensures within { result ≤ lead }
 {
-    let mut number = 1;
-    for other in 0..lead {
-        if leads_names(table, heads, other) {
-            number += 1;
-        }
-    }
-    number
+    (0..lead)
+        .filter(|other| leads_names(table, heads, *other))
+        .count()
 }
 
 // Whether a term is the lowest of a class that has only names.
 fn leads_names(table: &[u16], heads: &[u16], term: u16) -> bool
     requires long { length heads.now ≡ length table.now }
     requires term { term < length table.now }
-    ensures { (rs : List Row) → length rs ≡ length table.now → result ≡ leads table.now term && unbound rs table.now heads.now term }
+    ensures { result ≡ leads_names table.now heads.now term }
 {
-    if table[term as usize] != term {
-        return false;
-    }
-    heads[term as usize] as usize >= table.len()
+    table[term as usize] == term && heads[term as usize] as usize >= table.len()
 }

@@ -35,9 +35,8 @@ fn numbers(classes: &[u16], marks: &[Mark], compound: &Compound) -> [u16; 8]
     ensures { (i : ℕ) → i < compound.now.arity → slice_index result i ≡ number_of classes.now marks.now (slice_index compound.now.arguments i) }
 {
     let mut numbers = [0; 8];
-    for i in 0..compound.arity as usize {
-        let argument = compound.arguments[i];
-        numbers[i] = number(marks, classes[argument as usize]);
+    for (i, argument) in compound.arguments().iter().enumerate() {
+        numbers[i] = number(marks, classes[*argument as usize]);
     }
     numbers
 }
@@ -161,9 +160,7 @@ fn reset(marks: &mut [Mark], order: &mut OpenSheet)
     ensures rows { rows_of order.new ≡ [] }
     ensures unseen { (c : ℕ) → c < length marks.new → mark marks.new c ≡ Mark.Unseen }
 {
-    for mark in marks.iter_mut() {
-        *mark = Mark::Unseen;
-    }
+    marks.fill(Mark::Unseen);
     order.clear();
 }
 
@@ -185,9 +182,9 @@ pub(crate) fn visit_all(
     ensures no { result ≡ false → Unfit (rows terms.now) (classed classes.now) }
 {
     reset(marks, order);
-    for class in 0..terms.len() {
-        if classes[class] as usize == class {
-            if !visit(terms, classes, heads, marks, order, class as u16) {
+    for (term, class) in classes.iter().enumerate() {
+        if *class as usize == term {
+            if !visit(terms, classes, heads, marks, order, *class) {
                 return false;
             }
         }

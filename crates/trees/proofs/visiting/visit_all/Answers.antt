@@ -1,65 +1,69 @@
-use Rattle.std.proofs.Common.{◌+◌, List, sym, refl, ap, ◌∙◌, subst₂, arith}
+use Rattle.std.proofs.Common.{ℕ, ◌+◌, List, sym, refl, ap, ◌∙◌, subst, subst₂, arith}
 use Rattle.unify.proofs.Lists.{never}
 use Rattle.unify.proofs.Merges.{never_false}
+use Rattle.classes.specs.Classes.{class}
 use Rattle.unify.specs.declared.Mark.{Mark}
+use Rattle.unify.specs.Visits.{Numbered}
 use Rattle.sheet.specs.Models.{arities_of, rows_of}
 use Rattle.sheet.specs.declared.writing.OpenSheet.{OpenSheet}
 use Rattle.trees.specs.Places.{Reached}
 use Rattle.trees.proofs.Turns.{reached_start, reached_inside, reached_skip, reached_visit, reached_all}
 use Rattle.trees.proofs.visiting.visit_all.Goals as goal
-use Rattle.trees.proofs.visiting.visit_all.Goals.{then-classes-class+else-not-visit, else-classes-class}
+use Rattle.trees.proofs.visiting.visit_all.Goals.{then-class-term+else-not-visit, else-class-term}
 
-pub loop-class-init : goal.loop-class-init
-loop-class-init c = (
+pub loop-term-init : goal.loop-term-init
+loop-term-init c = (
   reached_start c.args.terms.now c.args.classes.now c.args.heads.now c.requires.terms c.requires.classes c.requires.heads.0 c.requires.heads.1
       c.reset.new.marks (arities_of c.args.order.now) (arities_of c.reset.new.order) (rows_of c.reset.new.order) c.requires.sheet c.reset.ensures.arities
       c.reset.ensures.rows (omega (arith, c.reset.auto.marks, c.requires.marks)) c.reset.ensures.unseen,
   refl,
 )
 
-pub loop-class-preserved : goal.loop-class-preserved
-loop-class-preserved c =
+pub loop-term-preserved : goal.loop-term-preserved
+loop-term-preserved c =
     let ts = c.args.terms.now in
     let cs = c.args.classes.now in
     let hs = c.args.heads.now in
-    let ms = c.loop-class.marks in
-    let order = c.loop-class.order in
-    elim c.if-classes-class.branch [
-      | then-classes-class+else-not-visit w ↦ (
-        subst₂ (λ (ns : List Mark) (o : OpenSheet). Reached ts cs hs ns (arities_of o) (rows_of o) (c.loop-class.class + 1)) (sym w.marks-is) (sym w.order-is)
-            (reached_visit ts cs hs ms (arities_of order) (rows_of order) c.loop-class.class c.loop-class.invariant.0 w.visit.new.marks (arities_of w.visit.new.order) (rows_of w.visit.new.order)
-            w.visit.ensures.arities (w.visit.ensures.visits.onward w.if-not-visit.false) (w.visit.ensures.visits.reached w.if-not-visit.false)),
-        ap arities_of w.order-is ∙ w.visit.ensures.arities ∙ c.loop-class.invariant.1,
+    let ms = c.loop-term.marks in
+    let order = c.loop-term.order in
+    elim c.if-class-term.branch [
+      | then-class-term+else-not-visit w ↦ (
+        subst₂ (λ (ns : List Mark) (o : OpenSheet). Reached ts cs hs ns (arities_of o) (rows_of o) (c.loop-term.term + 1)) (sym w.marks-is) (sym w.order-is)
+            (reached_visit ts cs hs ms (arities_of order) (rows_of order) c.loop-term.term c.loop-term.invariant.0 w.visit.new.marks (arities_of w.visit.new.order) (rows_of w.visit.new.order)
+            w.visit.ensures.arities (w.visit.ensures.visits.onward w.if-not-visit.false)
+            (subst (λ (k : ℕ). Numbered w.visit.new.marks k) w.if-class-term.true (w.visit.ensures.visits.reached w.if-not-visit.false))),
+        ap arities_of w.order-is ∙ w.visit.ensures.arities ∙ c.loop-term.invariant.1,
       )
-      | else-classes-class w ↦ (
-        subst₂ (λ (ns : List Mark) (o : OpenSheet). Reached ts cs hs ns (arities_of o) (rows_of o) (c.loop-class.class + 1)) (sym w.marks-is) (sym w.order-is)
-            (reached_skip ts cs hs ms (arities_of order) (rows_of order) c.loop-class.class c.loop-class.invariant.0 w.if-classes-class.false),
-        ap arities_of w.order-is ∙ c.loop-class.invariant.1,
+      | else-class-term w ↦ (
+        subst₂ (λ (ns : List Mark) (o : OpenSheet). Reached ts cs hs ns (arities_of o) (rows_of o) (c.loop-term.term + 1)) (sym w.marks-is) (sym w.order-is)
+            (reached_skip ts cs hs ms (arities_of order) (rows_of order) c.loop-term.term c.loop-term.invariant.0 w.if-class-term.false),
+        ap arities_of w.order-is ∙ c.loop-term.invariant.1,
       )
     ]
 
 pub visit-requires : goal.visit-requires
 visit-requires c =
-    let reached = c.loop-class.invariant.0 in
+    let reached = c.loop-term.invariant.0 in
     record {
       visiting = reached.visiting;
-      class = (c.loop-class-test.true, c.if-classes-class.true);
-      inside = reached_inside c.args.terms.now c.args.classes.now c.args.heads.now c.loop-class.marks (arities_of c.loop-class.order) (rows_of c.loop-class.order) c.loop-class.class reached c.loop-class.class;
+      class = (omega (arith, c.requires.classes.long, c.requires.terms.many), ap (class c.args.classes.now) c.if-class-term.true);
+      inside = reached_inside c.args.terms.now c.args.classes.now c.args.heads.now c.loop-term.marks (arities_of c.loop-term.order) (rows_of c.loop-term.order) c.loop-term.term reached
+          (class c.args.classes.now c.loop-term.term);
     }
 
 pub returns : goal.returns
 returns c =
     record {
-      arities = c.loop-class.invariant.1 ∙ c.reset.ensures.arities;
-      yes = λ _. reached_all c.args.terms.now c.args.classes.now c.args.heads.now c.loop-class.marks (arities_of c.loop-class.order) (rows_of c.loop-class.order) c.loop-class.class
-          c.loop-class.invariant.0 c.loop-class-test.false;
+      arities = c.loop-term.invariant.1 ∙ c.reset.ensures.arities;
+      yes = λ _. reached_all c.args.terms.now c.args.classes.now c.args.heads.now c.loop-term.marks (arities_of c.loop-term.order) (rows_of c.loop-term.order) c.loop-term.term
+          c.loop-term.invariant.0 (omega (arith, c.requires.classes.long, c.requires.terms.many));
       no = λ e. never_false e;
     }
 
 pub returns-then-not-visit : goal.returns-then-not-visit
 returns-then-not-visit c =
     record {
-      arities = c.visit.ensures.arities ∙ c.loop-class.invariant.1 ∙ c.reset.ensures.arities;
+      arities = c.visit.ensures.arities ∙ c.loop-term.invariant.1 ∙ c.reset.ensures.arities;
       yes = λ e. never e;
       no = λ _. c.visit.ensures.visits.stuck c.if-not-visit.true;
     }
