@@ -1,5 +1,5 @@
 -- What each way through a merge answers. Assumes nothing.
-use Rattle.std.proofs.Common.{◌≡◌, ℕ, ◌+◌, ◌<◌, ◌≤◌, min, max, Bool, true, false, List, length, get_or, set, sym, ap, ◌∙◌, subst, arith}
+use Rattle.std.proofs.Common.{◌≡◌, ℕ, ◌+◌, ◌<◌, ◌≤◌, min, max, Bool, true, false, List, length, get_or, set, sym, refl, ap, ◌∙◌, subst, arith}
 use Rattle.terms.specs.Sheets.{row, Compound}
 use Rattle.unify.specs.Parents.{Parents, Rooted, roots}
 use Rattle.unify.specs.Merging.{Tops, Answer, Agree, alike, joined, Joining}
@@ -168,22 +168,22 @@ module _ (ts : List Term) (terms : Terms ts) (ps hs : List ℕ) where
         record { parents = parents; fewer = omega arith; answer = λ f rooted tops. arguments_none (rows ts) f ps hs xs ys place past rooted tops }
 
     module _ (x y : ℕ) (left : x ≡ get_or xs place 0) (right : y ≡ get_or ys place 0) (within : place < length xs) (os ks : List ℕ) where
-      pub merge_clash : (p : Bool) → Merges ts ps hs os ks (λ f. f x ≡ f y) (λ v. v x ≡ v y) p → p ≡ false → Merges ts ps hs os ks (Agree xs ys place) (Agree xs ys place) false
-      merge_clash p merge fails =
+      pub merge_clash : Merges ts ps hs os ks (λ f. f x ≡ f y) (λ v. v x ≡ v y) false → Merges ts ps hs os ks (Agree xs ys place) (Agree xs ys place) false
+      merge_clash merge =
           record {
             parents = merge.parents;
             fewer = merge.fewer;
-            answer = λ f rooted tops. arguments_clash (rows ts) f os ks os ks xs ys x y place p left right within (merge.answer f rooted tops) fails;
+            answer = λ f rooted tops. arguments_clash (rows ts) f os ks os ks xs ys x y place false left right within (merge.answer f rooted tops) refl;
           }
 
-      pub merge_next : (p : Bool) → Merges ts ps hs os ks (λ f. f x ≡ f y) (λ v. v x ≡ v y) p → p ≡ true → x < length ts → y < length ts → (qs ms : List ℕ) (r : Bool)
+      pub merge_next : Merges ts ps hs os ks (λ f. f x ≡ f y) (λ v. v x ≡ v y) true → x < length ts → y < length ts → (qs ms : List ℕ) (r : Bool)
           → Merges ts os ks qs ms (Agree xs ys (place + 1)) (Agree xs ys (place + 1)) r → Merges ts ps hs qs ms (Agree xs ys place) (Agree xs ys place) r
-      merge_next p merge holds lx ly qs ms r rest =
+      merge_next merge lx ly qs ms r rest =
           record {
             parents = rest.parents;
             fewer = omega (arith, merge.fewer, rest.fewer);
             answer = λ f rooted tops.
-                let first = (merge.answer f rooted tops).brought holds in
+                let first = (merge.answer f rooted tops).brought refl in
                 arguments_next (rows ts) f qs ms xs ys x y place r left right within (omega (arith, terms.many)) (omega (arith, terms.many)) os ks first
                 (rest.answer first.g first.rooted first.tops);
           }

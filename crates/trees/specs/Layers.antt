@@ -1,5 +1,5 @@
 -- Layers of tables in one list, one for each number of standing equations. Assumes nothing.
-use Rattle.std.specs.Prelude.{◌≡◌, ℕ, ◌+◌, ◌*◌, ◌<◌, ◌≤◌, Bool, true, false, List, [], ◌∷◌, ◌++◌, length, take, drop, vec_len, slice_index}
+use Rattle.std.specs.Prelude.{◌≡◌, ℕ, ◌+◌, ◌*◌, ◌<◌, ◌≤◌, Result, OnOk, OnErr, List, [], ◌∷◌, ◌++◌, length, take, drop, vec_len, slice_index}
 use Rattle.std.proofs.Common.{subst, arith}
 use Rattle.std.proofs.Math.Logic.{∥∥₁_map}
 use Rattle.std.proofs.Math.Seq.{take-length}
@@ -8,6 +8,7 @@ use Rattle.terms.specs.Sheets.{Row, row, Sheet}
 use Rattle.classes.specs.Classes.{class, Settled}
 use Rattle.unify.specs.Settling.{Refuted}
 use Rattle.sheet.specs.Models.{arities_of}
+use Rattle.trees.specs.declared.clash.Clash.{Clash}
 use Rattle.trees.specs.declared.workspace.Workspace.{Workspace}
 
 -- The layer k of layers of n entries each.
@@ -33,12 +34,12 @@ newest_settled rs es ts hs layers =
 
 -- From the tables ts and the heads hs, us and ks came with a layer after k for one equation more, or the word that the
 -- equation is refuted; the layers up to k are as they were.
-pub record Nexts (n : ℕ) (rs : List Row) (k : ℕ) (e : Equation) (ts hs us ks : List ℕ) (r : Bool) : Type 0 where
+pub record Nexts (n : ℕ) (rs : List Row) (k : ℕ) (e : Equation) (ts hs us ks : List ℕ) (r : Result (Unit {0}) Clash) : Type 0 where
   pub tables : Below n k ts us
   pub heads : Below n k hs ks
-  pub settles : r ≡ true → (es : List Equation) → Settled rs es (layer n k ts) (layer n k hs)
-      → Settled rs (es ++ (e ∷ [])) (layer n (k + 1) us) (layer n (k + 1) ks)
-  pub refutes : r ≡ false → Refuted rs (class (layer n k ts)) e.left e.right
+  pub settles : OnOk r ((es : List Equation) → Settled rs es (layer n k ts) (layer n k hs)
+      → Settled rs (es ++ (e ∷ [])) (layer n (k + 1) us) (layer n (k + 1) ks))
+  pub refutes : OnErr r (Refuted rs (class (layer n k ts)) e.left e.right)
 
 -- The head of a term that is alone in its class, where n is its number and none that of no term.
 abbrev pub head_alone : ℕ → ℕ → Row → ℕ

@@ -9,6 +9,7 @@ ghost use Rattle.trees.specs.Works.{Workable};
 ghost use Rattle.trees.specs.Layers.{layer, Nexts, head_alone, Alone, Ready};
 ghost use Rattle.trees.specs.Models.{Founded};
 
+use crate::clash::Clash;
 use crate::settling::bring;
 use crate::workspace::Workspace;
 use logic::{Equation, ROOM};
@@ -43,8 +44,8 @@ impl Layers {
         })
     }
 
-    // Makes the layer after that of a level for one equation more, or says that no trees allow it.
-    pub(crate) fn next(&mut self, terms: &[Term], level: usize, e: Equation) -> bool
+    // Makes the layer after that of a level for one equation more.
+    pub(crate) fn next(&mut self, terms: &[Term], level: usize, e: Equation) -> Result<(), Clash>
         requires terms { Terms terms.now }
         requires level { level < 256 }
         requires long { (vec_len self.old.tables ≡ 257 * length terms.now) × (vec_len self.old.heads ≡ 257 * length terms.now) }
@@ -91,7 +92,7 @@ fn layer_at(entries: &[u16], n: usize, level: usize) -> &[u16]
     &entries[from..from + n]
 }
 
-// Makes the layer after that of a level for one equation more, or says that no trees allow it.
+// Makes the layer after that of a level for one equation more.
 fn next_layer(
     terms: &[Term],
     tables: &mut [u16],
@@ -99,7 +100,7 @@ fn next_layer(
     work: &mut Workspace,
     level: usize,
     e: Equation,
-) -> bool
+) -> Result<(), Clash>
     requires terms { Terms terms.now }
     requires level { level < 256 }
     requires long { (length tables.old ≡ 257 * length terms.now) × (length heads.old ≡ 257 * length terms.now) }

@@ -16,6 +16,7 @@ use logic::{Assumed, Equation, Kind, Logic, ROOM, Refusal, TellingLogic};
 use sheet::{OpenSheet, Term};
 use std::alloc::{AllocError, Global};
 
+mod clash;
 mod history;
 mod layers;
 mod merging;
@@ -93,7 +94,7 @@ impl Logic for Trees {
         if self.standing() == ROOM {
             return Err(Refusal::Full);
         }
-        if !self.history.assume(e) {
+        if self.history.assume(e).is_err() {
             return Ok(Assumed::Clash);
         }
         Ok(Assumed::Taken)

@@ -1,7 +1,7 @@
 // Bringing two terms together: unification on classes of terms. A class is a tree of parents, with the term that stands for
 // it on top; `heads` has a compound term of each class at that term.
 
-ghost use Rattle.std.specs.Prelude.{◌≡◌, ℕ, ◌<◌, ◌≤◌, min, max, true, false, length, slice_index, slice_set};
+ghost use Rattle.std.specs.Prelude.{◌≡◌, ℕ, ◌<◌, ◌≤◌, min, max, length, is_ok, OnOk, OnErr, slice_index, slice_set};
 ghost use Rattle.unify.specs.Parents.{Parents, Rooted};
 ghost use Rattle.unify.specs.Merging.{Agree, alike as similar};
 ghost use Rattle.unify.specs.Settling.{Tabled, Unified, Refuted};
@@ -10,6 +10,7 @@ ghost use Rattle.terms.specs.Sheets.{row};
 ghost use Rattle.trees.specs.Terms.{Terms, rows, arguments_of, Reads};
 ghost use Rattle.trees.specs.Merges.{Found, Merges};
 
+use crate::clash::Clash;
 use sheet::{Compound, Term};
 
 // The term that stands for the class of a term. The terms on the way there are moved up.
@@ -84,31 +85,34 @@ pub(crate) fn argument(terms: &[Term], a: u16, place: usize) -> u16
     }
 }
 
-// Brings two terms together, or says that no trees make them one.
+// Brings two terms together.
 #[cycle(merge_arguments_merge_terms)]
-fn merge_terms(terms: &[Term], parents: &mut [u16], heads: &mut [u16], a: u16, b: u16) -> bool
+fn merge_terms(
+    terms: &[Term],
+    parents: &mut [u16],
+    heads: &mut [u16],
+    a: u16,
+    b: u16,
+) -> Result<(), Clash>
     requires terms { Terms terms.now }
     requires parents { Parents (length terms.now) parents.old }
     requires heads { length heads.old ≡ length terms.now }
     requires sides { (a < length terms.now) × (b < length terms.now) }
-    ensures { Merges terms.now parents.old heads.old parents.new heads.new (λ f. f a ≡ f b) (λ v. v a ≡ v b) result }
+    ensures { Merges terms.now parents.old heads.old parents.new heads.new (λ f. f a ≡ f b) (λ v. v a ≡ v b) (is_ok result) }
 {
     let x = find(parents, a);
     let y = find(parents, b);
     if x == y {
-        return true;
+        return Ok(());
     }
     let first = heads[x as usize];
     let second = heads[y as usize];
     join(parents, heads, x, y);
-    if first as usize >= terms.len() {
-        return true;
-    }
-    if second as usize >= terms.len() {
-        return true;
+    if first as usize >= terms.len() || second as usize >= terms.len() {
+        return Ok(());
     }
     if !alike(terms, first, second) {
-        return false;
+        return Err(Clash);
     }
     merge_arguments(terms, parents, heads, first, second, 0)
 }
@@ -122,23 +126,21 @@ fn merge_arguments(
     a: u16,
     b: u16,
     place: usize,
-) -> bool
+) -> Result<(), Clash>
     requires terms { Terms terms.now }
     requires parents { Parents (length terms.now) parents.old }
     requires heads { length heads.old ≡ length terms.now }
     requires sides { (a < length terms.now) × (b < length terms.now) }
     requires same { length (arguments_of terms.now b) ≡ length (arguments_of terms.now a) }
     requires place { place ≤ length (arguments_of terms.now a) }
-    ensures { Merges terms.now parents.old heads.old parents.new heads.new (Agree (arguments_of terms.now a) (arguments_of terms.now b) place) (Agree (arguments_of terms.now a) (arguments_of terms.now b) place) result }
+    ensures { Merges terms.now parents.old heads.old parents.new heads.new (Agree (arguments_of terms.now a) (arguments_of terms.now b) place) (Agree (arguments_of terms.now a) (arguments_of terms.now b) place) (is_ok result) }
 {
     if place == arity(terms, a) {
-        return true;
+        return Ok(());
     }
     let x = argument(terms, a, place);
     let y = argument(terms, b, place);
-    if !merge_terms(terms, parents, heads, x, y) {
-        return false;
-    }
+    merge_terms(terms, parents, heads, x, y)?;
     merge_arguments(terms, parents, heads, a, b, place + 1)
 }
 
@@ -152,23 +154,21 @@ fn flatten(parents: &mut [u16])
     }
 }
 
-// Brings two terms of a table of classes together, in place, or says that no trees make them one.
+// Brings two terms of a table of classes together, in place.
 pub(crate) fn unify(
     terms: &[Term],
     table: &mut [u16],
     heads: &mut [u16],
     left: u16,
     right: u16,
-) -> bool
+) -> Result<(), Clash>
     requires terms { Terms terms.now }
     requires tabled { Tabled (rows terms.now) table.old heads.old }
     requires sides { (left < length terms.now) × (right < length terms.now) }
-    ensures yes { result ≡ true → Unified (rows terms.now) (class table.old) left right table.new heads.new }
-    ensures no { result ≡ false → Refuted (rows terms.now) (class table.old) left right }
+    ensures yes { OnOk result (Unified (rows terms.now) (class table.old) left right table.new heads.new) }
+    ensures no { OnErr result (Refuted (rows terms.now) (class table.old) left right) }
 {
-    if !merge_terms(terms, table, heads, left, right) {
-        return false;
-    }
+    merge_terms(terms, table, heads, left, right)?;
     flatten(table);
-    true
+    Ok(())
 }

@@ -1,6 +1,6 @@
 // The classes of forced-equal terms after one equation more.
 
-ghost use Rattle.std.specs.Prelude.{◌≡◌, ℕ, ◌<◌, ◌≤◌, true, false, List, [], ◌∷◌, ◌++◌, length, Decides, slice_index};
+ghost use Rattle.std.specs.Prelude.{◌≡◌, ℕ, ◌<◌, ◌≤◌, OnOk, OnErr, List, [], ◌∷◌, ◌++◌, length, Decides, slice_index};
 ghost use Rattle.logic.specs.declared.Equation.{Equation as Pair};
 ghost use Rattle.terms.specs.Sheets.{row, Compound as IsCompound, Sheet};
 ghost use Rattle.sheet.specs.Models.{arities_of};
@@ -10,6 +10,7 @@ ghost use Rattle.unify.specs.Firsts.{noted};
 ghost use Rattle.trees.specs.Terms.{Terms, rows};
 ghost use Rattle.trees.specs.Works.{Workable};
 
+use crate::clash::Clash;
 use crate::merging::{compound, unify};
 use crate::visiting::{number, visit_all};
 use crate::workspace::Workspace;
@@ -66,7 +67,7 @@ fn find_heads(terms: &[Term], table: &[u16], heads: &mut [u16])
     }
 }
 
-// Brings the two sides of an equation together, in place, or says that no trees allow it.
+// Brings the two sides of an equation together, in place.
 fn settle(
     terms: &[Term],
     table: &mut [u16],
@@ -75,42 +76,38 @@ fn settle(
     lowest: &mut [u16],
     order: &mut OpenSheet,
     e: Equation,
-) -> bool
+) -> Result<(), Clash>
     requires terms { Terms terms.now }
     requires tabled { Tabled (rows terms.now) table.old heads.old }
     requires places { (length marks.old ≡ length terms.now) × (length lowest.old ≡ length terms.now) }
     requires sheet { Sheet (arities_of order.old) (rows terms.now) }
     requires sides { (e.left < length terms.now) × (e.right < length terms.now) }
     ensures arities { arities_of order.new ≡ arities_of order.old }
-    ensures yes { result ≡ true → (es : List Pair) → Settled (rows terms.now) es table.old heads.old → Settled (rows terms.now) (es ++ (e ∷ [])) table.new heads.new }
-    ensures no { result ≡ false → Refuted (rows terms.now) (class table.old) e.left e.right }
+    ensures yes { OnOk result ((es : List Pair) → Settled (rows terms.now) es table.old heads.old → Settled (rows terms.now) (es ++ (e ∷ [])) table.new heads.new) }
+    ensures no { OnErr result (Refuted (rows terms.now) (class table.old) e.left e.right) }
 {
-    if !unify(terms, table, heads, e.left, e.right) {
-        return false;
-    }
-    if !visit_all(terms, table, heads, marks, order) {
-        return false;
-    }
+    unify(terms, table, heads, e.left, e.right)?;
+    visit_all(terms, table, heads, marks, order)?;
     lower(table, marks, lowest);
     find_heads(terms, table, heads);
-    true
+    Ok(())
 }
 
-// The same, in a workspace. Where it says that no trees allow it, the tables are of no use.
+// The same, in a workspace. After a clash the tables are of no use.
 pub(crate) fn bring(
     terms: &[Term],
     table: &mut [u16],
     heads: &mut [u16],
     work: &mut Workspace,
     e: Equation,
-) -> bool
+) -> Result<(), Clash>
     requires terms { Terms terms.now }
     requires tabled { Tabled (rows terms.now) table.old heads.old }
     requires work { Workable terms.now work.old }
     requires sides { (e.left < length terms.now) × (e.right < length terms.now) }
     ensures work { Workable terms.now work.new }
-    ensures yes { result ≡ true → (es : List Pair) → Settled (rows terms.now) es table.old heads.old → Settled (rows terms.now) (es ++ (e ∷ [])) table.new heads.new }
-    ensures no { result ≡ false → Refuted (rows terms.now) (class table.old) e.left e.right }
+    ensures yes { OnOk result ((es : List Pair) → Settled (rows terms.now) es table.old heads.old → Settled (rows terms.now) (es ++ (e ∷ [])) table.new heads.new) }
+    ensures no { OnErr result (Refuted (rows terms.now) (class table.old) e.left e.right) }
 {
     settle(
         terms,

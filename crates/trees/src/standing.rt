@@ -1,10 +1,11 @@
 // Letting equations stand, and taking them back.
 
-ghost use Rattle.std.specs.Prelude.{◌≡◌, ◌<◌, ◌≤◌, true, false, [], ◌∷◌, ◌++◌, length, take, IfOk, vec_capacity};
-ghost use Rattle.logic.specs.Theories.{Clash};
+ghost use Rattle.std.specs.Prelude.{◌≡◌, ◌<◌, ◌≤◌, true, OnOk, OnErr, [], ◌∷◌, ◌++◌, length, take, IfOk, vec_capacity};
+ghost use Rattle.logic.specs.Theories.{Clash as Clashes};
 ghost use Rattle.sheet.specs.Models.{rows_of};
 ghost use Rattle.trees.specs.Models.{Founded, stands_in, theory_in, Prepared};
 
+use crate::clash::Clash;
 use crate::history::History;
 use crate::layers::Layers;
 use logic::{Equation, ROOM};
@@ -37,29 +38,27 @@ impl History {
     }
 
     // Lets an equation stand as the newest, unless it clashes.
-    pub(crate) fn assume(&mut self, e: Equation) -> bool
+    pub(crate) fn assume(&mut self, e: Equation) -> Result<(), Clash>
         requires had { (theory_in self.old).has e ≡ true }
         requires few { length (stands_in self.old) < 256 }
         ensures sheet { self.new.sheet ≡ self.old.sheet }
-        ensures yes { result ≡ true → (Clash (theory_in self.old) (stands_in self.old) e → ⊥) × (stands_in self.new ≡ stands_in self.old ++ (e ∷ [])) }
-        ensures no { result ≡ false → Clash (theory_in self.old) (stands_in self.old) e × (stands_in self.new ≡ stands_in self.old) }
+        ensures yes { OnOk result ((Clashes (theory_in self.old) (stands_in self.old) e → ⊥) × (stands_in self.new ≡ stands_in self.old ++ (e ∷ []))) }
+        ensures no { OnErr result (Clashes (theory_in self.old) (stands_in self.old) e × (stands_in self.new ≡ stands_in self.old)) }
     {
-        if !self.prepare(e) {
-            return false;
-        }
+        self.prepare(e)?;
         self.push(e);
-        true
+        Ok(())
     }
 
-    // Makes the layer for one equation more, or says that it clashes.
-    fn prepare(&mut self, e: Equation) -> bool
+    // Makes the layer for one equation more.
+    fn prepare(&mut self, e: Equation) -> Result<(), Clash>
         requires had { (theory_in self.old).has e ≡ true }
         requires few { length (stands_in self.old) < 256 }
         ensures sheet { self.new.sheet ≡ self.old.sheet }
         ensures standing { stands_in self.new ≡ stands_in self.old }
-        ensures fits { result ≡ true → Clash (theory_in self.old) (stands_in self.old) e → ⊥ }
-        ensures prepared { result ≡ true → Prepared self.new e }
-        ensures clash { result ≡ false → Clash (theory_in self.old) (stands_in self.old) e }
+        ensures fits { OnOk result (Clashes (theory_in self.old) (stands_in self.old) e → ⊥) }
+        ensures prepared { OnOk result (Prepared self.new e) }
+        ensures clash { OnErr result (Clashes (theory_in self.old) (stands_in self.old) e) }
     {
         self.layers.next(self.sheet.terms(), self.standing.len(), e)
     }

@@ -2,7 +2,7 @@
 // only names, and otherwise that of its head's symbol over the numbers of the arguments' classes, as a sheet gives it.
 // So two classes get one number exactly where all their compound terms must be equal.
 
-ghost use Rattle.std.specs.Prelude.{◌≡◌, ℕ, ◌<◌, ◌≤◌, true, false, List, [], map, length, slice_index};
+ghost use Rattle.std.specs.Prelude.{◌≡◌, ℕ, ◌<◌, ◌≤◌, is_ok, OnOk, OnErr, List, [], map, length, slice_index};
 ghost use Rattle.terms.specs.Sheets.{Row, row, Writable, Sheet};
 ghost use Rattle.classes.specs.Classes.{class as classed, Lowest};
 ghost use Rattle.unify.specs.Merging.{Tops};
@@ -12,6 +12,7 @@ ghost use Rattle.sheet.specs.Models.{arities_of, rows_of};
 ghost use Rattle.trees.specs.Terms.{Terms, rows, arguments_of};
 ghost use Rattle.trees.specs.Places.{Placed, Visiting, Writing};
 
+use crate::clash::Clash;
 use crate::merging::{argument, arity, compound};
 use sheet::{Compound, OpenSheet, Term};
 use unify::Mark;
@@ -91,7 +92,7 @@ fn write_head(
     }
 }
 
-// Visits a class, and before it those of its head's arguments. False where it stands inside itself, so that no trees fit.
+// Visits a class, and before it those of its head's arguments. A clash where it stands inside itself, so that no trees fit.
 #[cycle(visit_visit_arguments)]
 fn visit(
     terms: &[Term],
@@ -100,28 +101,26 @@ fn visit(
     marks: &mut [Mark],
     order: &mut OpenSheet,
     class: u16,
-) -> bool
+) -> Result<(), Clash>
     requires visiting { Visiting terms.now classes.now heads.now marks.old (arities_of order.old) (rows_of order.old) }
     requires class { (class < length terms.now) × (classed classes.now class ≡ class) }
     requires inside { Inside (rows terms.now) (classed classes.now) marks.old class 1 }
     ensures arities { arities_of order.new ≡ arities_of order.old }
-    ensures visits { Visits (rows terms.now) (classed classes.now) heads.now marks.old (rows_of order.old) marks.new (rows_of order.new) (Numbered marks.new class) result }
+    ensures visits { Visits (rows terms.now) (classed classes.now) heads.now marks.old (rows_of order.old) marks.new (rows_of order.new) (Numbered marks.new class) (is_ok result) }
 {
     match marks[class as usize] {
-        Mark::Done(_) => true,
-        Mark::Begun => false,
+        Mark::Done(_) => Ok(()),
+        Mark::Begun => Err(Clash),
         Mark::Unseen => {
             marks[class as usize] = Mark::Begun;
             let head = heads[class as usize];
             if head as usize >= terms.len() {
                 write_name(marks, order, class);
-                return true;
+                return Ok(());
             }
-            if !visit_arguments(terms, classes, heads, marks, order, head, 0) {
-                return false;
-            }
+            visit_arguments(terms, classes, heads, marks, order, head, 0)?;
             write_head(terms, classes, marks, order, class, head);
-            true
+            Ok(())
         }
     }
 }
@@ -136,21 +135,19 @@ fn visit_arguments(
     order: &mut OpenSheet,
     head: u16,
     place: usize,
-) -> bool
+) -> Result<(), Clash>
     requires visiting { Visiting terms.now classes.now heads.now marks.old (arities_of order.old) (rows_of order.old) }
     requires head { head < length terms.now }
     requires place { place ≤ length (arguments_of terms.now head) }
     requires inside { Inside (rows terms.now) (classed classes.now) marks.old head 0 }
     ensures arities { arities_of order.new ≡ arities_of order.old }
-    ensures visits { Visits (rows terms.now) (classed classes.now) heads.now marks.old (rows_of order.old) marks.new (rows_of order.new) (AllNumbered (classed classes.now) marks.new (arguments_of terms.now head) place) result }
+    ensures visits { Visits (rows terms.now) (classed classes.now) heads.now marks.old (rows_of order.old) marks.new (rows_of order.new) (AllNumbered (classed classes.now) marks.new (arguments_of terms.now head) place) (is_ok result) }
 {
     if place == arity(terms, head) {
-        return true;
+        return Ok(());
     }
     let class = classes[argument(terms, head, place) as usize];
-    if !visit(terms, classes, heads, marks, order, class) {
-        return false;
-    }
+    visit(terms, classes, heads, marks, order, class)?;
     visit_arguments(terms, classes, heads, marks, order, head, place + 1)
 }
 
@@ -164,30 +161,28 @@ fn reset(marks: &mut [Mark], order: &mut OpenSheet)
     order.clear();
 }
 
-// Visits every class, or says that no trees fit.
+// Visits every class.
 pub(crate) fn visit_all(
     terms: &[Term],
     classes: &[u16],
     heads: &[u16],
     marks: &mut [Mark],
     order: &mut OpenSheet,
-) -> bool
+) -> Result<(), Clash>
     requires terms { Terms terms.now }
     requires classes { Lowest (length (rows terms.now)) classes.now }
     requires heads { Tops (rows terms.now) (classed classes.now) heads.now × (length heads.now ≡ length (rows terms.now)) }
     requires sheet { Sheet (arities_of order.old) (rows terms.now) }
     requires marks { length marks.old ≡ length (rows terms.now) }
     ensures arities { arities_of order.new ≡ arities_of order.old }
-    ensures yes { result ≡ true → AllVisited (rows terms.now) classes.now heads.now marks.new (rows_of order.new) (length (rows terms.now)) }
-    ensures no { result ≡ false → Unfit (rows terms.now) (classed classes.now) }
+    ensures yes { OnOk result (AllVisited (rows terms.now) classes.now heads.now marks.new (rows_of order.new) (length (rows terms.now))) }
+    ensures no { OnErr result (Unfit (rows terms.now) (classed classes.now)) }
 {
     reset(marks, order);
     for (term, class) in classes.iter().enumerate() {
         if *class as usize == term {
-            if !visit(terms, classes, heads, marks, order, *class) {
-                return false;
-            }
+            visit(terms, classes, heads, marks, order, *class)?;
         }
     }
-    true
+    Ok(())
 }

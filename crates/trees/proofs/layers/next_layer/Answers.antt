@@ -1,4 +1,5 @@
 use Rattle.std.proofs.Common.{ℕ, ◌+◌, ◌-◌, ◌*◌, ◌≤◌, List, [], ◌∷◌, ◌++◌, length, sym, ◌∙◌, subst, subst₂, arith}
+use Rattle.std.proofs.lemmas.Result.{on_ok_weaker, on_err_weaker}
 use Rattle.classes.specs.Classes.{class, Settled}
 use Rattle.unify.specs.Settling.{Tabled, Refuted}
 use Rattle.trees.specs.Terms.{rows}
@@ -53,11 +54,11 @@ returns c =
       next = record {
         tables = λ j h. layer_kept n k j m xs us (omega arith) h ∙ old-tables j h;
         heads = λ j h. layer_kept n k j m hs vs (omega arith) h ∙ old-heads j h;
-        settles = λ yes es settled.
+        settles = on_ok_weaker c.bring.result (λ settles es settled.
             subst₂ (λ (ps qs : List ℕ). Settled (rows ts) (es ++ (c.args.e ∷ [])) ps qs)
             (sym (layer_new n k m xs us (omega arith) (c.bring.auto.table ∙ part_long n k xs tables-fit)))
             (sym (layer_new n k m hs vs (omega arith) (c.bring.auto.heads ∙ part_long n k hs heads-fit)))
-            (c.bring.ensures.yes yes es (subst₂ (λ (ps qs : List ℕ). Settled (rows ts) es ps qs) (sym tables) (sym heads) settled));
-        refutes = λ refused. subst (λ (ps : List ℕ). Refuted (rows ts) (class ps) c.args.e.left c.args.e.right) tables (c.bring.ensures.no refused);
+            (settles es (subst₂ (λ (ps qs : List ℕ). Settled (rows ts) es ps qs) (sym tables) (sym heads) settled))) c.bring.ensures.yes;
+        refutes = on_err_weaker c.bring.result (subst (λ (ps : List ℕ). Refuted (rows ts) (class ps) c.args.e.left c.args.e.right) tables) c.bring.ensures.no;
       };
     }

@@ -1,4 +1,5 @@
-use Rattle.std.proofs.Common.{◌≡◌, ℕ, ◌<◌, true, false, List, length, get_or, sym, ◌∙◌, subst, subst₂, arith}
+use Rattle.std.proofs.Common.{◌≡◌, ℕ, ◌<◌, true, false, List, length, is_ok, get_or, sym, ◌∙◌, subst, subst₂, arith}
+use Rattle.std.proofs.lemmas.Result.{err_from_is_err_and}
 use Rattle.terms.specs.Sheets.{row}
 use Rattle.unify.specs.Parents.{Parents, roots}
 use Rattle.unify.specs.Merging.{Agree}
@@ -7,19 +8,20 @@ use Rattle.trees.specs.Terms.{rows, arguments_of}
 use Rattle.trees.specs.Merges.{Merges}
 use Rattle.trees.proofs.Ways.{merge_same, merge_parents, merge_fewer, merge_left, merge_right, merge_unlike, merge_alike, merge_none, merge_clash, merge_next}
 use Rattle.trees.proofs.merging.+merge_arguments_merge_terms.Goals as goal
+use Rattle.trees.proofs.merging.+merge_arguments_merge_terms.Goals.{merge_terms-then-first-terms-via-then-first-terms, merge_terms-then-first-terms-via-else-first-terms+then-second-terms}
 
 pub merge_arguments-returns-then-place-arity : goal.merge_arguments-returns-then-place-arity
 merge_arguments-returns-then-place-arity t c =
     let ts = c.args.terms.now in
     merge_none ts c.requires.terms c.args.parents.now c.args.heads.now (arguments_of ts c.args.a) (arguments_of ts c.args.b) c.args.place c.requires.parents (omega arith)
 
-pub merge_arguments-returns-then-not-merge_terms :
-    goal.merge_arguments-returns-then-not-merge_terms
-merge_arguments-returns-then-not-merge_terms t c =
+pub merge_arguments-returns-in_err-merge_terms : goal.merge_arguments-returns-in_err-merge_terms
+merge_arguments-returns-in_err-merge_terms t c =
     let ts = c.args.terms.now in
-    merge_clash ts c.requires.terms c.args.parents.now c.args.heads.now (arguments_of ts c.args.a) (arguments_of ts c.args.b) c.args.place
+    let p = err_from_is_err_and c.from_residual.result c.from_residual.ensures.1 in
+    rw p.1 (merge_clash ts c.requires.terms c.args.parents.now c.args.heads.now (arguments_of ts c.args.a) (arguments_of ts c.args.b) c.args.place
     c.argument-x.result c.argument-y.result c.argument-x.ensures c.argument-y.ensures (omega arith) c.merge_terms.new.parents c.merge_terms.new.heads
-    c.merge_terms.result c.merge_terms.ensures c.if-not-merge_terms.true
+    c.in_err-merge_terms.ensures)
 
 pub merge_arguments-returns : goal.merge_arguments-returns
 merge_arguments-returns t c =
@@ -28,8 +30,8 @@ merge_arguments-returns t c =
     let right : c.argument-y.result < length ts = omega (arith, c.argument-y.ensures, c.requires.terms.lower c.args.b c.args.place c.requires.sides.1 (omega arith)) in
     merge_next ts c.requires.terms c.args.parents.now c.args.heads.now (arguments_of ts c.args.a) (arguments_of ts c.args.b) c.args.place
     c.argument-x.result c.argument-y.result c.argument-x.ensures c.argument-y.ensures (omega arith) c.merge_terms.new.parents c.merge_terms.new.heads
-    c.merge_terms.result c.merge_terms.ensures c.if-not-merge_terms.false left right
-    c.merge_arguments.new.parents c.merge_arguments.new.heads c.merge_arguments.result c.merge_arguments.ensures
+    c.in_ok-merge_terms.ensures left right
+    c.merge_arguments.new.parents c.merge_arguments.new.heads (is_ok c.merge_arguments.result) c.merge_arguments.ensures
 
 pub merge_terms-returns-then-x-y : goal.merge_terms-returns-then-x-y
 merge_terms-returns-then-x-y t c =
@@ -43,20 +45,16 @@ merge_terms-returns-then-first-terms t c =
     let hs = c.args.heads.now in
     subst₂ (λ (qs ks : List ℕ). Merges ts ps hs qs ks (λ f. f c.args.a ≡ f c.args.b) (λ v. v c.args.a ≡ v c.args.b) true)
     (sym c.join.ensures.parents) (sym c.join.ensures.heads)
-    (merge_left ts c.requires.terms ps hs c.find-x.new.parents c.find-y.new.parents c.args.a c.args.b
-    c.find-x.result c.find-y.result c.requires.parents c.requires.heads c.requires.sides.0 c.requires.sides.1 c.find-x.ensures c.find-y.ensures c.if-x-y.false
-    c.if-first-terms.true)
-
-pub merge_terms-returns-then-second-terms : goal.merge_terms-returns-then-second-terms
-merge_terms-returns-then-second-terms t c =
-    let ts = c.args.terms.now in
-    let ps = c.args.parents.now in
-    let hs = c.args.heads.now in
-    subst₂ (λ (qs ks : List ℕ). Merges ts ps hs qs ks (λ f. f c.args.a ≡ f c.args.b) (λ v. v c.args.a ≡ v c.args.b) true)
-    (sym c.join.ensures.parents) (sym c.join.ensures.heads)
-    (merge_right ts c.requires.terms ps hs c.find-x.new.parents c.find-y.new.parents c.args.a c.args.b
-    c.find-x.result c.find-y.result c.requires.parents c.requires.heads c.requires.sides.0 c.requires.sides.1 c.find-x.ensures c.find-y.ensures c.if-x-y.false
-    c.if-second-terms.true)
+    (elim c.then-first-terms.branch [
+      | merge_terms-then-first-terms-via-then-first-terms w ↦
+          merge_left ts c.requires.terms ps hs c.find-x.new.parents c.find-y.new.parents c.args.a c.args.b
+          c.find-x.result c.find-y.result c.requires.parents c.requires.heads c.requires.sides.0 c.requires.sides.1 c.find-x.ensures c.find-y.ensures c.if-x-y.false
+          w.if-first-terms.true
+      | merge_terms-then-first-terms-via-else-first-terms+then-second-terms w ↦
+          merge_right ts c.requires.terms ps hs c.find-x.new.parents c.find-y.new.parents c.args.a c.args.b
+          c.find-x.result c.find-y.result c.requires.parents c.requires.heads c.requires.sides.0 c.requires.sides.1 c.find-x.ensures c.find-y.ensures c.if-x-y.false
+          w.if-second-terms.true
+    ])
 
 pub merge_terms-returns-then-not-alike : goal.merge_terms-returns-then-not-alike
 merge_terms-returns-then-not-alike t c =
@@ -107,6 +105,6 @@ merge_terms-returns t c =
     merge_alike ts c.requires.terms ps hs c.find-x.new.parents c.find-y.new.parents c.args.a c.args.b
     x y c.requires.parents c.requires.heads c.requires.sides.0 c.requires.sides.1 c.find-x.ensures c.find-y.ensures c.if-x-y.false
     c.if-first-terms.false c.if-second-terms.false (sym c.alike.ensures ∙ c.if-not-alike.false)
-    c.merge_arguments.new.parents c.merge_arguments.new.heads c.merge_arguments.result
-    (subst₂ (λ (qs ks : List ℕ). Merges ts qs ks c.merge_arguments.new.parents c.merge_arguments.new.heads (Agree (arguments_of ts (get_or hs x 0)) (arguments_of ts (get_or hs y 0)) 0) (Agree (arguments_of ts (get_or hs x 0)) (arguments_of ts (get_or hs y 0)) 0) c.merge_arguments.result)
+    c.merge_arguments.new.parents c.merge_arguments.new.heads (is_ok c.merge_arguments.result)
+    (subst₂ (λ (qs ks : List ℕ). Merges ts qs ks c.merge_arguments.new.parents c.merge_arguments.new.heads (Agree (arguments_of ts (get_or hs x 0)) (arguments_of ts (get_or hs y 0)) 0) (Agree (arguments_of ts (get_or hs x 0)) (arguments_of ts (get_or hs y 0)) 0) (is_ok c.merge_arguments.result))
     c.join.ensures.parents c.join.ensures.heads c.merge_arguments.ensures)

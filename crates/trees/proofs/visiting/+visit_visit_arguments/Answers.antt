@@ -1,4 +1,4 @@
-use Rattle.std.proofs.Common.{◌≡◌, ℕ, ◌<◌, length, get_or, sym, refl, ap, ◌∙◌, subst, arith, length-set}
+use Rattle.std.proofs.Common.{◌≡◌, ℕ, ◌<◌, length, is_ok, get_or, sym, refl, ap, ◌∙◌, subst, arith, length-set}
 use Rattle.classes.specs.Classes.{class}
 use Rattle.unify.specs.Visits.{Numbered, Inside}
 use Rattle.sheet.specs.Models.{arities_of, rows_of}
@@ -51,8 +51,8 @@ visit-write_head-requires t c =
     record {
       visiting = head_writing c.args.terms.now c.args.classes.now c.args.heads.now c.args.marks.now (arities_of c.args.order.now) (rows_of c.args.order.now)
           c.requires.visiting c.args.class c.requires.class.0 c.requires.class.1 c.in-Unseen.is c.if-head-terms.false
-          c.visit_arguments.new.marks (rows_of c.visit_arguments.new.order) (c.visit_arguments.ensures.visits.onward c.if-not-visit_arguments.false)
-          (c.visit_arguments.ensures.visits.reached c.if-not-visit_arguments.false) (arities_of c.visit_arguments.new.order) c.visit_arguments.ensures.arities;
+          c.visit_arguments.new.marks (rows_of c.visit_arguments.new.order) (c.in_ok-visit_arguments-in-Unseen.ensures.visits.onward refl)
+          (c.in_ok-visit_arguments-in-Unseen.ensures.visits.reached refl) (arities_of c.visit_arguments.new.order) c.visit_arguments.ensures.arities;
     }
 
 pub visit-returns-in-Begun : goal.visit-returns-in-Begun
@@ -63,14 +63,14 @@ visit-returns-in-Begun t c =
           c.requires.visiting c.args.class c.requires.class.0 c.requires.class.1 c.requires.inside c.in-Begun.is;
     }
 
-pub visit-returns-else-not-visit_arguments : goal.visit-returns-else-not-visit_arguments
-visit-returns-else-not-visit_arguments t c =
+pub visit-returns-in_ok-visit_arguments-in-Unseen : goal.visit-returns-in_ok-visit_arguments-in-Unseen
+visit-returns-in_ok-visit_arguments-in-Unseen t c =
     record {
       arities = c.write_head.ensures.arities ∙ c.visit_arguments.ensures.arities;
       visits = visit_head c.args.terms.now c.args.classes.now c.args.heads.now c.args.marks.now (arities_of c.args.order.now) (rows_of c.args.order.now)
           c.requires.visiting c.args.class c.requires.class.0 c.requires.class.1 c.in-Unseen.is c.if-head-terms.false
-          c.visit_arguments.new.marks (rows_of c.visit_arguments.new.order) (c.visit_arguments.ensures.visits.onward c.if-not-visit_arguments.false)
-          (c.visit_arguments.ensures.visits.reached c.if-not-visit_arguments.false) c.write_head.new.marks (rows_of c.write_head.new.order) c.write_head.ensures.placed;
+          c.visit_arguments.new.marks (rows_of c.visit_arguments.new.order) (c.in_ok-visit_arguments-in-Unseen.ensures.visits.onward refl)
+          (c.in_ok-visit_arguments-in-Unseen.ensures.visits.reached refl) c.write_head.new.marks (rows_of c.write_head.new.order) c.write_head.ensures.placed;
     }
 
 pub visit_arguments-visit-requires : goal.visit_arguments-visit-requires
@@ -104,7 +104,7 @@ visit_arguments-visit_arguments-requires t c =
     let Q = rows_of c.args.order.now in
     let h = c.args.head in
     let within : c.args.place < length (arguments_of ts h) = omega arith in
-    let onward = c.visit.ensures.visits.onward c.if-not-visit.false in (
+    let onward = c.in_ok-visit.ensures.visits.onward refl in (
       omega (arith, c.decreases, onward.fewer),
       (
         next_visiting ts cs hs ms ar Q c.requires.visiting h c.args.place c.requires.head within c.visit.new.marks (rows_of c.visit.new.order) onward (arities_of c.visit.new.order) c.visit.ensures.arities,
@@ -128,11 +128,11 @@ visit_arguments-returns t c =
     let Q = rows_of c.args.order.now in
     let h = c.args.head in
     let within : c.args.place < length (arguments_of ts h) = omega arith in
-    let onward = c.visit.ensures.visits.onward c.if-not-visit.false in
+    let onward = c.in_ok-visit.ensures.visits.onward refl in
     let same : get_or cs c.argument.result 0 ≡ class cs (get_or (arguments_of ts h) c.args.place 0) = ap (class cs) c.argument.ensures in
     record {
       arities = c.visit_arguments.ensures.arities ∙ c.visit.ensures.arities;
       visits = visit_rest ts cs hs ms ar Q c.requires.visiting h c.args.place c.requires.head within c.visit.new.marks (rows_of c.visit.new.order) onward
-          (subst (λ (k : ℕ). Numbered c.visit.new.marks k) same (c.visit.ensures.visits.reached c.if-not-visit.false))
-          c.visit_arguments.new.marks (rows_of c.visit_arguments.new.order) c.visit_arguments.result c.visit_arguments.ensures.visits;
+          (subst (λ (k : ℕ). Numbered c.visit.new.marks k) same (c.in_ok-visit.ensures.visits.reached refl))
+          c.visit_arguments.new.marks (rows_of c.visit_arguments.new.order) (is_ok c.visit_arguments.result) c.visit_arguments.ensures.visits;
     }

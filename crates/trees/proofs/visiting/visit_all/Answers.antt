@@ -1,6 +1,5 @@
 use Rattle.std.proofs.Common.{ℕ, ◌+◌, List, sym, refl, ap, ◌∙◌, subst, subst₂, arith}
-use Rattle.unify.proofs.Lists.{never}
-use Rattle.unify.proofs.Merges.{never_false}
+use Rattle.std.proofs.lemmas.Result.{err_from_is_err_and}
 use Rattle.classes.specs.Classes.{class}
 use Rattle.unify.specs.declared.Mark.{Mark}
 use Rattle.unify.specs.Visits.{Numbered}
@@ -9,7 +8,7 @@ use Rattle.sheet.specs.declared.writing.OpenSheet.{OpenSheet}
 use Rattle.trees.specs.Places.{Reached}
 use Rattle.trees.proofs.Turns.{reached_start, reached_inside, reached_skip, reached_visit, reached_all}
 use Rattle.trees.proofs.visiting.visit_all.Goals as goal
-use Rattle.trees.proofs.visiting.visit_all.Goals.{then-class-term+else-not-visit, else-class-term}
+use Rattle.trees.proofs.visiting.visit_all.Goals.{then-class-term+in_ok-visit, else-class-term}
 
 pub loop-term-init : goal.loop-term-init
 loop-term-init c = (
@@ -27,11 +26,11 @@ loop-term-preserved c =
     let ms = c.loop-term.marks in
     let order = c.loop-term.order in
     elim c.if-class-term.branch [
-      | then-class-term+else-not-visit w ↦ (
+      | then-class-term+in_ok-visit w ↦ (
         subst₂ (λ (ns : List Mark) (o : OpenSheet). Reached ts cs hs ns (arities_of o) (rows_of o) (c.loop-term.term + 1)) (sym w.marks-is) (sym w.order-is)
             (reached_visit ts cs hs ms (arities_of order) (rows_of order) c.loop-term.term c.loop-term.invariant.0 w.visit.new.marks (arities_of w.visit.new.order) (rows_of w.visit.new.order)
-            w.visit.ensures.arities (w.visit.ensures.visits.onward w.if-not-visit.false)
-            (subst (λ (k : ℕ). Numbered w.visit.new.marks k) w.if-class-term.true (w.visit.ensures.visits.reached w.if-not-visit.false))),
+            w.visit.ensures.arities (w.in_ok-visit.ensures.visits.onward refl)
+            (subst (λ (k : ℕ). Numbered w.visit.new.marks k) w.if-class-term.true (w.in_ok-visit.ensures.visits.reached refl))),
         ap arities_of w.order-is ∙ w.visit.ensures.arities ∙ c.loop-term.invariant.1,
       )
       | else-class-term w ↦ (
@@ -55,15 +54,16 @@ pub returns : goal.returns
 returns c =
     record {
       arities = c.loop-term.invariant.1 ∙ c.reset.ensures.arities;
-      yes = λ _. reached_all c.args.terms.now c.args.classes.now c.args.heads.now c.loop-term.marks (arities_of c.loop-term.order) (rows_of c.loop-term.order) c.loop-term.term
+      yes = reached_all c.args.terms.now c.args.classes.now c.args.heads.now c.loop-term.marks (arities_of c.loop-term.order) (rows_of c.loop-term.order) c.loop-term.term
           c.loop-term.invariant.0 (omega (arith, c.requires.classes.long, c.requires.terms.many));
-      no = λ e. never_false e;
+      no = tt;
     }
 
-pub returns-then-not-visit : goal.returns-then-not-visit
-returns-then-not-visit c =
+pub returns-in_err-visit : goal.returns-in_err-visit
+returns-in_err-visit c =
+    let p = err_from_is_err_and c.from_residual.result c.from_residual.ensures.1 in
     record {
       arities = c.visit.ensures.arities ∙ c.loop-term.invariant.1 ∙ c.reset.ensures.arities;
-      yes = λ e. never e;
-      no = λ _. c.visit.ensures.visits.stuck c.if-not-visit.true;
+      yes = rw p.1 tt;
+      no = rw p.1 (c.in_err-visit.ensures.visits.stuck refl);
     }
