@@ -7,3 +7,4 @@ pub mod Layering
 pub mod Preparing
 pub mod Tells
 pub mod Counted
+pub mod Climbing

@@ -16,7 +16,7 @@ use Rattle.unify.proofs.Visits.{mark_other, begun_fresh, unseen_less, unseen_wit
 use Rattle.sheet.specs.Rows.{Stands}
 use Rattle.sheet.specs.declared.rows.Term.{Term}
 use Rattle.sheet.specs.declared.rows.Compound.{Compound}
-use Rattle.trees.specs.Terms.{Terms, rows, arguments_of}
+use Rattle.trees.specs.Terms.{Orderly, rows, arguments_of}
 use Rattle.trees.specs.Places.{Placed, Visiting, Writing, Reached}
 use Rattle.trees.proofs.Ways.{argument_term}
 
@@ -265,7 +265,7 @@ module _ (ts : List Term) (cs hs : List ℕ) (ms : List Mark) (ar : List ℕ) (Q
 
 -- every class in turn
 module _ (ts : List Term) (cs hs : List ℕ) where
-  pub reached_start : Terms ts → Lowest (length (rows ts)) cs → Tops (rows ts) (class cs) hs → length hs ≡ length (rows ts)
+  pub reached_start : Orderly ts → Lowest (length (rows ts)) cs → Tops (rows ts) (class cs) hs → length hs ≡ length (rows ts)
       → (ms : List Mark) (ar br : List ℕ) (Q : List Row) → Sheet ar (rows ts) → br ≡ ar → Q ≡ [] → length ms ≡ length (rows ts)
       → ((c : ℕ) → c < length ms → mark ms c ≡ Mark.Unseen) → Reached ts cs hs ms br Q 0
   reached_start terms lowest tops long ms ar br Q sheet same empty wide clean =

@@ -1,19 +1,26 @@
 -- What each way through a merge answers. Assumes nothing.
-use Rattle.std.proofs.Common.{◌≡◌, ℕ, ◌+◌, ◌<◌, ◌≤◌, min, max, Bool, true, false, List, length, get_or, set, sym, refl, ap, ◌∙◌, subst, arith}
+use Rattle.std.proofs.Common.{◌≡◌, ℕ, ◌+◌, ◌<◌, ◌≤◌, min, max, Bool, true, false, List, length, get_or, set, sym, refl, ap, ◌∙◌, subst, subst₂, arith}
+use Rattle.logic.specs.Trees.{Tree}
 use Rattle.terms.specs.Sheets.{row, Compound}
 use Rattle.unify.specs.Parents.{Parents, Rooted, roots}
 use Rattle.unify.specs.Merging.{Tops, Answer, Agree, alike, joined, Joining}
 use Rattle.unify.proofs.Joins.{join_parents, join_fewer, join_rooted, join_tops, lower_less, of_both, found_joining}
 use Rattle.unify.proofs.Merges.{answer_same, arguments_none, arguments_clash, arguments_next, terms_alone, terms_clash, terms_next}
 use Rattle.sheet.specs.declared.rows.Term.{Term}
-use Rattle.trees.specs.Terms.{rows, arguments_of, Terms}
+use Rattle.trees.specs.Terms.{rows, arguments_of, Orderly}
 use Rattle.trees.specs.Merges.{Found, Merges}
 
 -- an argument is a term
-pub argument_term : (ts : List Term) → Terms ts → (x i : ℕ) → x < length (rows ts) → i < length (arguments_of ts x) → get_or (arguments_of ts x) i 0 < length (rows ts)
+pub argument_term : (ts : List Term) → Orderly ts → (x i : ℕ) → x < length (rows ts) → i < length (arguments_of ts x) → get_or (arguments_of ts x) i 0 < length (rows ts)
 argument_term ts terms x i lx l = omega (arith, terms.many, terms.lower x i (omega (arith, terms.many)) l)
 
-module _ (ts : List Term) (terms : Terms ts) (ps hs : List ℕ) where
+-- the same merge of lists that are named otherwise
+pub merge_along : (ts : List Term) (ps hs js qs os ks vs : List ℕ) (met : (ℕ → ℕ) → Type 0) (agrees : (ℕ → Tree) → Type 0) (r : Bool)
+    → hs ≡ js → os ≡ qs → vs ≡ ks → Merges ts ps hs qs ks met agrees r → Merges ts ps js os vs met agrees r
+merge_along ts ps hs js qs os ks vs met agrees r e f g merge =
+    subst (λ (xs : List ℕ). Merges ts ps xs os vs met agrees r) e (subst₂ (λ (xs ys : List ℕ). Merges ts ps hs xs ys met agrees r) (sym f) (sym g) merge)
+
+module _ (ts : List Term) (terms : Orderly ts) (ps hs : List ℕ) where
   -- the parents ps of as many terms as there are rows
   over : (qs : List ℕ) (f : ℕ → ℕ) → Rooted (length ts) qs f → Rooted (length (rows ts)) qs f
   over qs f rooted = subst (λ (n : ℕ). Rooted n qs f) (sym terms.many) rooted

@@ -7,7 +7,7 @@ use Rattle.unify.specs.Merging.{Tops}
 use Rattle.unify.specs.Visits.{mark, unseen, Numbered, Visited}
 use Rattle.unify.specs.Settling.{number_of}
 use Rattle.sheet.specs.declared.rows.Term.{Term}
-use Rattle.trees.specs.Terms.{Terms, rows, arguments_of}
+use Rattle.trees.specs.Terms.{Orderly, rows, arguments_of}
 
 -- From the marks ms and rows P the class c got a number, marked in ns: that of the row r among the rows S, which are P with at most
 -- one row more.
@@ -24,7 +24,7 @@ pub record Placed (ms : List Mark) (P : List Row) (ns : List Mark) (S : List Row
 -- What a visit finds: a table cs of classes with their heads hs on the terms ts, the marks ms, the rows Q over symbols of the
 -- arities ar, and room for a row for each class that is unseen.
 pub record Visiting (ts : List Term) (cs hs : List ℕ) (ms : List Mark) (ar : List ℕ) (Q : List Row) : Type 0 where
-  pub terms : Terms ts
+  pub terms : Orderly ts
   pub lowest : Lowest (length (rows ts)) cs
   pub tops : Tops (rows ts) (classed cs) hs
   pub long : length hs ≡ length (rows ts)
@@ -34,7 +34,7 @@ pub record Visiting (ts : List Term) (cs hs : List ℕ) (ms : List Mark) (ar : L
 
 -- What is needed to write a class down by its head: the classes of the head's arguments have got numbers.
 pub record Writing (ts : List Term) (cs : List ℕ) (ms : List Mark) (ar : List ℕ) (P : List Row) (c h : ℕ) : Type 0 where
-  pub terms : Terms ts
+  pub terms : Orderly ts
   pub lowest : Lowest (length (rows ts)) cs
   pub sheet : Sheet ar (rows ts)
   pub long : length ms ≡ length (rows ts)

@@ -18,16 +18,17 @@ use std::alloc::{AllocError, Global};
 
 mod clash;
 mod history;
-mod layers;
+mod layer;
 mod merging;
 mod reading;
 mod settling;
 mod standing;
 mod telling;
+mod term_list;
 #[cfg(test)]
 mod tests;
 mod visiting;
-mod workspace;
+mod visits;
 
 #[derive(Drop)]
 pub struct Trees {

@@ -3,14 +3,20 @@
 ghost use Rattle.std.specs.Prelude.{◌≡◌, ◌<◌, ◌≤◌, true, OnOk, OnErr, [], ◌∷◌, ◌++◌, length, take, IfOk, vec_capacity};
 ghost use Rattle.logic.specs.Theories.{Clash as Clashes};
 ghost use Rattle.sheet.specs.Models.{rows_of};
+ghost use Rattle.trees.specs.Terms.{rows};
+ghost use Rattle.trees.specs.Layers.{Ready};
 ghost use Rattle.trees.specs.Models.{Founded, stands_in, theory_in, Prepared};
 
 use crate::clash::Clash;
 use crate::history::History;
-use crate::layers::Layers;
+use crate::layer::Layer;
+use crate::settling::next_layer;
+use crate::term_list::Terms;
+use crate::visits::Visits;
 use logic::{Equation, ROOM};
 use sheet::OpenSheet;
 use std::alloc::{AllocError, Global};
+use unify::Mark;
 
 impl History {
     // Nothing stands, and each term is in a class of its own. This takes all the memory that a history ever needs.
@@ -18,15 +24,22 @@ impl History {
         ensures { IfOk result (λ h. (h.sheet ≡ sheet) × (stands_in h ≡ [])) }
     {
         let standing = Vec::with_capacity(heap, ROOM)?;
-        let layers = Layers::new(heap, &sheet)?;
-        Ok(History::first(sheet, standing, layers))
+        let layers = layers(heap, Terms::of(&sheet))?;
+        let visits = visits(heap, &sheet)?;
+        Ok(History::first(sheet, standing, layers, visits))
     }
 
     // The same, in memory that is at hand.
-    fn first(sheet: OpenSheet, standing: Vec<Equation>, layers: Layers) -> History
+    fn first(
+        sheet: OpenSheet,
+        standing: Vec<Equation>,
+        layers: Vec<Layer>,
+        visits: Visits,
+    ) -> History
         requires empty { standing.items ≡ [] }
         requires room { 256 ≤ vec_capacity standing }
-        requires founded { Founded (rows_of sheet) layers }
+        requires founded { Founded (rows_of sheet) layers.items }
+        requires ready { Ready (rows_of sheet) visits }
         ensures sheet { result.sheet ≡ sheet }
         ensures standing { stands_in result ≡ [] }
     {
@@ -34,6 +47,7 @@ impl History {
             sheet,
             standing,
             layers,
+            visits,
         }
     }
 
@@ -60,7 +74,13 @@ impl History {
         ensures prepared { OnOk result (Prepared self.new e) }
         ensures clash { OnErr result (Clashes (theory_in self.old) (stands_in self.old) e) }
     {
-        self.layers.next(self.sheet.terms(), self.standing.len(), e)
+        next_layer(
+            &mut self.layers,
+            &mut self.visits,
+            Terms::of(&self.sheet),
+            self.standing.len(),
+            e,
+        )
     }
 
     // Lets the equation stand that the next layer is made for.
@@ -80,4 +100,30 @@ impl History {
     {
         self.standing.truncate(n);
     }
+}
+
+// A layer for each number of standing equations: in each of them every term is in a class of its own.
+fn layers(heap: Global, terms: Terms) -> Result<Vec<Layer>, AllocError>
+    ensures { IfOk result (λ ls. Founded (rows terms.entry.list.now) ls.items) }
+{
+    let mut layers = Vec::with_capacity(heap, ROOM + 1)?;
+    for _ in 0..ROOM + 1 {
+        layers.push_reserved(Layer::apart(heap, terms)?);
+    }
+    Ok(layers)
+}
+
+// What the layers of a sheet's terms are made with.
+fn visits(heap: Global, sheet: &OpenSheet) -> Result<Visits, AllocError>
+    ensures { IfOk result (λ v. Ready (rows_of sheet.now) v) }
+{
+    let count = sheet.terms().len();
+    let marks = vec![in heap; Mark::Unseen; count]?;
+    let lowest = vec![in heap; 0u16; count]?;
+    let order = sheet.blank(heap)?;
+    Ok(Visits {
+        marks,
+        lowest,
+        order,
+    })
 }

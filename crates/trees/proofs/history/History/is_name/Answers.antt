@@ -6,10 +6,10 @@ use Rattle.trees.proofs.history.History.is_name.Goals as goal
 pub returns : goal.returns
 returns c =
     let s = c.args.self.now.sheet in
-    let ts = c.terms.result.now in
+    let ts = c.of.result.list.now in
     let n = c.args.number in
-    let long = many s ts c.terms.ensures in
-    let here = ap (λ (rs : List Row). row rs n) c.terms.ensures.rows in
+    let long = many s ts c.of.ensures in
+    let here = ap (λ (rs : List Row). row rs n) c.of.ensures.rows in
     record {
       yes = λ yes. (omega (arith, (c.is_name.ensures.yes yes).0, long), sym here ∙ (c.is_name.ensures.yes yes).1);
       no = λ refused name. c.is_name.ensures.no refused (omega (arith, name.0, long)) (here ∙ name.1);
