@@ -6,60 +6,20 @@
 
 #![tactic(auto)]
 
-use logic::{Equation, Kind, TellingLogic};
+use logic::TellingLogic;
 use rules::Literal;
-use session::{Call, Reply, Session, play};
+use session::{Call, Refusal, Reply, Session, play};
 use std::alloc::AllocError;
 use std::io;
 use tags::Tags;
-use walk::Word;
 
 const BUDGET: u64 = 10;
 
-fn equal(left: u16, right: u16) -> Literal {
-    Literal::Equal(Equation { left, right })
-}
-
-fn denied(left: u16, right: u16) -> Literal {
-    Literal::Denied(Equation { left, right })
-}
-
-fn print_literals(rt: &HostRuntime, literals: &[Literal]) -> io::Result<()> {
-    print!(rt; "post")?;
-    for (place, literal) in literals.iter().enumerate() {
-        let bar = if place == 0 { " " } else { " | " };
-        match literal {
-            Literal::Equal(e) => print!(rt; "{bar}{} = {}", e.left, e.right)?,
-            Literal::Denied(e) => print!(rt; "{bar}{} != {}", e.left, e.right)?,
-        }
-    }
-    Ok(())
-}
-
-fn print_call(rt: &HostRuntime, call: &Call) -> io::Result<()> {
-    match call {
-        Call::Post(literals) => print_literals(rt, literals),
-        Call::Open => print!(rt; "open"),
-        Call::Close => print!(rt; "close"),
-        Call::Ask(budget) => print!(rt; "ask {budget}"),
-        Call::Choice(k) => print!(rt; "choice {k}"),
-    }
-}
-
-fn word(word: Word) -> &'static str {
-    match word {
-        Word::Found => "found",
-        Word::None => "none",
-        Word::Spent => "spent",
-    }
-}
-
-fn print_reply(rt: &HostRuntime, reply: &Reply) -> io::Result<()> {
+// Prints a call with its reply.
+fn print_reply(rt: &HostRuntime, call: &Call, reply: &Result<Reply, Refusal>) -> io::Result<()> {
     match reply {
-        Reply::Granted => println!(rt; ": granted"),
-        Reply::Refused(refusal) => println!(rt; ": refused {}", refusal.number()),
-        Reply::Answered(answer, trials) => println!(rt; ": {} {trials}", word(*answer)),
-        Reply::Chosen(left, right) => println!(rt; ": {left} = {right}"),
+        Ok(reply) => println!(rt; "{call}: {reply}"),
+        Err(refusal) => println!(rt; "{call}: {refusal}"),
     }
 }
 
@@ -69,9 +29,8 @@ fn print_told<L: TellingLogic + Drop>(
     number: u16,
 ) -> io::Result<()> {
     match session.tell(number) {
-        Ok((Kind::Tower, height)) => println!(rt; "tell {number}: up {height}"),
-        Ok((Kind::Term, term)) => println!(rt; "tell {number}: is term {term}"),
-        Err(refusal) => println!(rt; "tell {number}: refused {}", refusal.number()),
+        Ok((kind, told)) => println!(rt; "tell {number}: {kind} {told}"),
+        Err(refusal) => println!(rt; "tell {number}: {refusal}"),
     }
 }
 
@@ -96,8 +55,7 @@ fn show(rt: &HostRuntime, calls: &[Call]) -> anyhow::Result<()> {
     let heap = rt.alloc();
     let (session, replies) = play(heap, Tags::new(heap)?, calls)?;
     for (call, reply) in calls.iter().zip(replies.iter()) {
-        print_call(rt, call)?;
-        print_reply(rt, reply)?;
+        print_reply(rt, call, reply)?;
     }
     for tag in 0..5 {
         print_told(rt, &session, tag)?;
@@ -108,13 +66,13 @@ fn show(rt: &HostRuntime, calls: &[Call]) -> anyhow::Result<()> {
 
 fn main(rt: HostRuntime) -> anyhow::Result<()> {
     // The gate is not in the depot.
-    let always = [denied(1, 2)];
+    let always = [Literal::denied(1, 2)];
     // Enter: the ticket is for this zone.
-    let enter = [equal(0, 1)];
+    let enter = [Literal::equal(0, 1)];
     // Staff: the class is staff, or the ticket is for the depot.
-    let staff = [equal(3, 4), equal(0, 2)];
+    let staff = [Literal::equal(3, 4), Literal::equal(0, 2)];
     // Reject: the ticket is for another zone.
-    let reject = [denied(0, 1)];
+    let reject = [Literal::denied(0, 1)];
     let mut calls = Vec::new(rt.alloc());
     calls.push(Call::Choice(0))?;
     calls.push(Call::Post(&always))?;

@@ -2,42 +2,45 @@
 
 #![tactic(auto)]
 
-use logic::{Equation, TellingLogic};
 use rules::Literal;
 use session::{Refusal, Session};
 use std::io;
 use switches::Switches;
-use walk::Word;
 
+// The switch is on.
 fn on(switch: u16) -> Literal {
-    Literal::Equal(Equation {
-        left: switch,
-        right: 0,
-    })
+    Literal::equal(switch, 0)
 }
 
+// The switch is off.
 fn off(switch: u16) -> Literal {
-    Literal::Denied(Equation {
-        left: switch,
-        right: 0,
-    })
+    Literal::denied(switch, 0)
 }
 
 fn print(rt: &HostRuntime, what: &str, answer: Result<(), Refusal>) -> io::Result<()> {
     match answer {
         Ok(_) => println!(rt; "{what}: granted"),
-        Err(refusal) => println!(rt; "{what}: refused {}", refusal.number()),
+        Err(refusal) => println!(rt; "{what}: {refusal}"),
     }
 }
 
 fn print_ask(rt: &HostRuntime, session: &mut Session<Switches>, budget: u64) -> io::Result<()> {
     let (word, trials) = session.ask(budget);
-    let name = match word {
-        Word::Found => "found",
-        Word::None => "none",
-        Word::Spent => "spent",
-    };
-    println!(rt; "ask {budget}: {name} {trials}")
+    println!(rt; "ask {budget}: {word} {trials}")
+}
+
+fn print_choice(rt: &HostRuntime, session: &Session<Switches>, k: usize) -> io::Result<()> {
+    match session.choice(k) {
+        Ok((left, right)) => println!(rt; "choice {k}: {left} {right}"),
+        Err(refusal) => println!(rt; "choice {k}: {refusal}"),
+    }
+}
+
+fn print_told(rt: &HostRuntime, session: &Session<Switches>, number: u16) -> io::Result<()> {
+    match session.tell(number) {
+        Ok((kind, told)) => println!(rt; "tell {number}: {kind} {told}"),
+        Err(refusal) => println!(rt; "tell {number}: {refusal}"),
+    }
 }
 
 // Rules of 16 and of 17 literals, of a switch that is there and of one that is not.
@@ -84,21 +87,11 @@ fn rules(rt: &HostRuntime, session: &mut Session<Switches>) -> io::Result<()> {
 
 // What is shown, and the refusals of choice and tell.
 fn shown(rt: &HostRuntime, session: &mut Session<Switches>) -> io::Result<()> {
-    match session.choice(0) {
-        Ok((left, right)) => println!(rt; "choice 0: {left} {right}")?,
-        Err(refusal) => println!(rt; "choice 0: refused {}", refusal.number())?,
-    }
+    print_choice(rt, session, 0)?;
     print_ask(rt, session, 0)?;
-    match session.choice(0) {
-        Ok((left, right)) => println!(rt; "choice 0: {left} {right}")?,
-        Err(refusal) => println!(rt; "choice 0: refused {}", refusal.number())?,
-    }
-    for number in [255, 256] {
-        match session.tell(number) {
-            Ok((_, height)) => println!(rt; "tell {number}: up {height}")?,
-            Err(refusal) => println!(rt; "tell {number}: refused {}", refusal.number())?,
-        }
-    }
+    print_choice(rt, session, 0)?;
+    print_told(rt, session, 255)?;
+    print_told(rt, session, 256)?;
     print(rt, "the empty rule", session.post(&[]))?;
     print_ask(rt, session, 0)
 }

@@ -6,12 +6,17 @@
 
 ghost use Rattle.std.specs.Prelude.{◌≡◌, ℕ, ◌≤◌, List, length, take, Decides};
 ghost use Rattle.logic.specs.declared.Equation.{Equation};
+ghost use Rattle.logic.specs.declared.Refusal.TheVariants as R;
 ghost use Rattle.logic.specs.Trees.{World};
 ghost use Rattle.logic.specs.Theories.{Theory, Forced, Freest, FreestAt};
 ghost use Rattle.logic.specs.Refusals.{refusal_number};
 ghost use Rattle.logic.specs.Tellings.Told.{refused};
 ghost use Rattle.logic.specs.Tellings.{Told, Telling, Names, silent, kind_number, answer_of};
 ghost use Rattle.logic.specs.Answers.{Keeps, Assumes, outcome_of};
+
+use bounded::Full;
+use std::error::Error;
+use std::fmt;
 
 // How many equations may stand in a logic.
 pub const ROOM: usize = 256;
@@ -21,6 +26,21 @@ pub const ROOM: usize = 256;
 pub struct Equation {
     pub left: u16,
     pub right: u16,
+}
+
+impl Equation {
+    // The equation between two numbers.
+    pub fn new(left: u16, right: u16) -> Equation
+        ensures { (result.left ≡ left) × (result.right ≡ right) }
+    {
+        Equation { left, right }
+    }
+}
+
+impl fmt::Display for Equation {
+    fn fmt<W: fmt::Write>(&self, f: &mut fmt::Formatter<W>) -> fmt::Result {
+        write!(f, "{} = {}", self.left, self.right)
+    }
 }
 
 // How a granted `assume` came out.
@@ -56,6 +76,23 @@ impl Refusal {
     }
 }
 
+impl fmt::Display for Refusal {
+    fn fmt<W: fmt::Write>(&self, f: &mut fmt::Formatter<W>) -> fmt::Result {
+        write!(f, "refused {}", self.number())
+    }
+}
+
+impl Error for Refusal {}
+
+// Standing equations without room for one more.
+impl From<Full> for Refusal {
+    ghost from_gives = { λ _ r. r ≡ R.Full };
+
+    fn from(_full: Full) -> Refusal {
+        Refusal::Full
+    }
+}
+
 // What the number beside it names.
 #[derive(Clone, Copy, PartialEq, Eq, Debug)]
 pub enum Kind {
@@ -73,6 +110,16 @@ impl Kind {
         match self {
             Kind::Tower => 0,
             Kind::Term => 1,
+        }
+    }
+}
+
+// What stands before the number in a line: `up` before a height, `is term` before a term.
+impl fmt::Display for Kind {
+    fn fmt<W: fmt::Write>(&self, f: &mut fmt::Formatter<W>) -> fmt::Result {
+        match self {
+            Kind::Tower => write!(f, "up"),
+            Kind::Term => write!(f, "is term"),
         }
     }
 }

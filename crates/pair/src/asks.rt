@@ -10,6 +10,7 @@ use crate::both::Both;
 use logic::{Assumed, Equation, Kind, Logic, Refusal, TellingLogic};
 use sides::Side;
 
+// The two are of types of their own, so each call names the one that it asks.
 impl<A: Logic, B: Logic> Both<A, B> {
     // Whether that side has the equation.
     pub(crate) fn has(&self, side: Side, e: Equation) -> bool
@@ -33,7 +34,7 @@ impl<A: Logic, B: Logic> Both<A, B> {
 
     // Lets the equation stand on that side, as that side's logic does.
     pub(crate) fn assume(&mut self, side: Side, e: Equation) -> Result<Assumed, Refusal>
-        ensures { Asks A.Logic.lawful B.Logic.lawful A.Logic.stands B.Logic.stands A.Logic.theory B.Logic.theory A.Logic.telling B.Logic.telling self.old side e (outcome_of result) self.new }
+        ensures { Asks A.Logic B.Logic self.old side e (outcome_of result) self.new }
     {
         match side {
             Side::First => self.first.assume(e),
@@ -43,7 +44,7 @@ impl<A: Logic, B: Logic> Both<A, B> {
 
     // Keeps the oldest equations on each side, so many on the first and so many on the second.
     pub(crate) fn back(&mut self, firsts: usize, seconds: usize)
-        ensures { Backs A.Logic.lawful B.Logic.lawful A.Logic.stands B.Logic.stands A.Logic.theory B.Logic.theory A.Logic.telling B.Logic.telling self.old firsts seconds self.new }
+        ensures { Backs A.Logic B.Logic self.old firsts seconds self.new }
     {
         self.first.back(firsts);
         self.second.back(seconds);

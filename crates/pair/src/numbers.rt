@@ -1,8 +1,8 @@
 // The numbers of the two sides: the even ones are the first's, and the odd ones the second's.
 
-ghost use Rattle.std.specs.Prelude.{◌≡◌, ◌≤◌};
+ghost use Rattle.std.specs.Prelude.{◌≡◌, ◌≤◌, length};
 ghost use Rattle.logic.specs.Tellings.{answer_of};
-ghost use Rattle.sides.specs.Sides.{side_at, part_of, doubled as doubled_of, belongs as belongs_to};
+ghost use Rattle.sides.specs.Sides.{side_at, part_of, doubled as doubled_of, belongs as belongs_to, share};
 ghost use Rattle.sides.specs.Tellings.{passed_on};
 
 use logic::{Equation, Kind, Refusal};
@@ -37,13 +37,17 @@ pub(crate) fn part(e: Equation) -> Option<(Side, Equation)>
 }
 
 // Whether an equation is a part of that side.
-pub(crate) fn belongs(side: Side, e: Equation) -> bool
+fn belongs(side: Side, e: Equation) -> bool
     ensures { result ≡ belongs_to side (part_of e) }
 {
-    match part(e) {
-        Some((of, _)) => of == side,
-        None => false,
-    }
+    part(e).is_some_and(|(of, _)| of == side)
+}
+
+// How many of the equations are parts of that side.
+pub(crate) fn count(side: Side, es: &[Equation]) -> usize
+    ensures { result ≡ length (share side es.now) }
+{
+    es.iter().filter(|e| belongs(side, **e)).count()
 }
 
 // The number of a side, among the numbers of both.

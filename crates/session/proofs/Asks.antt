@@ -62,7 +62,7 @@ module _ (t : Theory) (R : List (List Literal)) (b m : ℕ) (had : HadAll t R) w
       }
 
 -- u is the theory after the shown answer is put away, v that after the walk
-module _ (t : Theory) (good : Type 0) (S : List Equation) (R : List (List Literal)) (ls : List ℕ) (C : List Equation) (shown : Bool) (cs : List Asking) (rs : List Answer)
+module _ {t : Theory} {good : Type 0} {S : List Equation} {R : List (List Literal)} {ls : List ℕ} {C : List Equation} {shown : Bool} {cs : List Asking} {rs : List Answer}
     (l : Led t good S R ls C shown cs rs)
     (u v : Theory) (fine : Type 0) (T D : List Equation) (away : Same u t) (after : Same v u) (lawful : fine) (stand : D ≡ T) (b m : ℕ) where
   back : Same v t
@@ -76,15 +76,15 @@ module _ (t : Theory) (good : Type 0) (S : List Equation) (R : List (List Litera
   led_found w f =
       let free : Freest t D = subst (λ (x : List Equation). Freest t x) (sym stand) (freest_moved v t back T f) in
       let example : Example t R D = (laws t).found R b m D l.had (moved (found D) w) free in
-      led_next t good S R ls C shown cs rs l (ask b) (answered W.Found m) v fine T R ls D true back lawful (sym stand)
+      led_next l (ask b) (answered W.Found m) v fine T R ls D true back lawful (sym stand)
       (λ e. let z : ◌≡◌ {A = ℕ} 0 1 = cc in absurd (omega arith)) l.had example (D, moved (found D) w, refl) (found_law t R b m l.had D (moved (found D) w) example)
 
   pub led_ask : (a : Word) → ((a ≡ W.Found → ⊥) → D ≡ []) → Walk u R b [] 0 m (end_of a D) → Freest v T
       → Led v fine T R ls D (is_found a) (cs ++ (ask b ∷ [])) (rs ++ (answered a m ∷ []))
   led_ask W.Found bare w f = led_found w f
   led_ask W.None bare w f =
-      led_next t good S R ls C shown cs rs l (ask b) (answered W.None m) v fine T R ls D false back lawful (sym stand) (λ _. bare none≢found) l.had tt
+      led_next l (ask b) (answered W.None m) v fine T R ls D false back lawful (sym stand) (λ _. bare none≢found) l.had tt
       (moved dead w, refl) (none_law t R b m l.had (moved dead w))
   led_ask W.Spent bare w f =
-      led_next t good S R ls C shown cs rs l (ask b) (answered W.Spent m) v fine T R ls D false back lawful (sym stand) (λ _. bare spent≢found) l.had tt
+      led_next l (ask b) (answered W.Spent m) v fine T R ls D false back lawful (sym stand) (λ _. bare spent≢found) l.had tt
       (moved spent w, refl) (spent_law t R b m l.had (moved spent w))

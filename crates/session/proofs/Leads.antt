@@ -35,7 +35,7 @@ led_begin t good S rs ls C lawful e₀ e₁ e₂ e₃ =
       run = subst (λ (x : State). Run t [] [] x) (sym (state_is (ap written e₁) e₂ refl)) begin;
     }
 
-module _ (t : Theory) (good : Type 0) (S : List Equation) (R : List (List Literal)) (ls : List ℕ) (C : List Equation) (shown : Bool) (cs : List Asking) (rs : List Answer)
+module _ {t : Theory} {good : Type 0} {S : List Equation} {R : List (List Literal)} {ls : List ℕ} {C : List Equation} {shown : Bool} {cs : List Asking} {rs : List Answer}
     (l : Led t good S R ls C shown cs rs) where
   -- a call that leaves all as found
   pub led_same : (c : Asking) (r : Answer) → Step t (state R ls (shown_of shown C)) c r (state R ls (shown_of shown C)) → LastLaw t c r (state R ls (shown_of shown C))
@@ -125,27 +125,23 @@ pub taken_had : (t : Theory) (n : ℕ) (R Q : List (List Literal)) → Q ≡ tak
 taken_had t n R Q cut had = subst (HadAll t) (sym cut) (had_take t n R had)
 
 -- a close with no scope open
-nothing_of : {A : Type 0} (xs : List A) → length xs ≡ 0 → xs ≡ []
-nothing_of [] e = refl
-nothing_of (x ∷ xs) e = absurd (omega arith)
-
-pub led_unopened : (t : Theory) (good : Type 0) (S : List Equation) (R : List (List Literal)) (ls : List ℕ) (C : List Equation) (shown : Bool) (cs : List Asking) (rs : List Answer)
-    → Led t good S R ls C shown cs rs → (ks : List ℕ) → length ls ≡ 0 → ls ≡ ks → Led t good S R ks C shown (cs ++ (closes ∷ [])) (rs ++ (refused 33 ∷ []))
-led_unopened t good S R ls C shown cs rs l ks none same =
+pub led_unopened : {t : Theory} {good : Type 0} {S : List Equation} {R : List (List Literal)} {ls : List ℕ} {C : List Equation} {shown : Bool} {cs : List Asking} {rs : List Answer}
+    → Led t good S R ls C shown cs rs → (ks : List ℕ) → ls ≡ [] → ls ≡ ks → Led t good S R ks C shown (cs ++ (closes ∷ [])) (rs ++ (refused 33 ∷ []))
+led_unopened {t} {good} {S} {R} {ls} {C} {shown} {cs} {rs} l ks none same =
     subst (λ (x : List ℕ). Led t good S R x C shown (cs ++ (closes ∷ [])) (rs ++ (refused 33 ∷ []))) same
-    (led_same t good S R ls C shown cs rs l closes (refused 33) (nothing_of ls none, refl, refl) tt)
+    (led_same l closes (refused 33) (none, refl, refl) tt)
 
 -- a choice
-module _ (t : Theory) (good : Type 0) (S : List Equation) (R : List (List Literal)) (ls : List ℕ) (C : List Equation) (cs : List Asking) (rs : List Answer) (k : ℕ) where
-  pub led_unshown : (shown : Bool) → shown ≡ false → Led t good S R ls C shown cs rs → Led t good S R ls C shown (cs ++ (choice k ∷ [])) (rs ++ (refused 34 ∷ []))
-  led_unshown shown e l =
-      led_same t good S R ls C shown cs rs l (choice k) (refused 34) (inl (ap (λ (b : Bool). shown_of b C) e, refl), refl) tt
+module _ {t : Theory} {good : Type 0} {S : List Equation} {R : List (List Literal)} {ls : List ℕ} {C : List Equation} {cs : List Asking} {rs : List Answer} (k : ℕ) {shown : Bool} where
+  pub led_unshown : shown ≡ false → Led t good S R ls C shown cs rs → Led t good S R ls C shown (cs ++ (choice k ∷ [])) (rs ++ (refused 34 ∷ []))
+  led_unshown e l =
+      led_same l (choice k) (refused 34) (inl (ap (λ (b : Bool). shown_of b C) e, refl), refl) tt
 
-  pub led_beyond : (shown : Bool) → shown ≡ true → length C ≤ k → Led t good S R ls C shown cs rs → Led t good S R ls C shown (cs ++ (choice k ∷ [])) (rs ++ (refused 18 ∷ []))
-  led_beyond shown e past l =
-      led_same t good S R ls C shown cs rs l (choice k) (refused 18) (inr (C, ap (λ (b : Bool). shown_of b C) e, past, refl), refl) tt
+  pub led_beyond : shown ≡ true → length C ≤ k → Led t good S R ls C shown cs rs → Led t good S R ls C shown (cs ++ (choice k ∷ [])) (rs ++ (refused 18 ∷ []))
+  led_beyond e past l =
+      led_same l (choice k) (refused 18) (inr (C, ap (λ (b : Bool). shown_of b C) e, past, refl), refl) tt
 
-  pub led_choice : (shown : Bool) → shown ≡ true → k < length C → (e : Equation) → e ≡ get_or C k (record { left = 0; right = 0 }) → Led t good S R ls C shown cs rs
+  pub led_choice : shown ≡ true → k < length C → (e : Equation) → e ≡ get_or C k (record { left = 0; right = 0 }) → Led t good S R ls C shown cs rs
       → Led t good S R ls C shown (cs ++ (choice k ∷ [])) (rs ++ (chosen e.left e.right ∷ []))
-  led_choice shown there within e read l =
-      led_same t good S R ls C shown cs rs l (choice k) (chosen e.left e.right) (C, ap (λ (b : Bool). shown_of b C) there, within, sym read, refl) tt
+  led_choice there within e read l =
+      led_same l (choice k) (chosen e.left e.right) (C, ap (λ (b : Bool). shown_of b C) there, within, sym read, refl) tt

@@ -1,37 +1,37 @@
--- The steps of the loop that checks a rule's equations. Assumes nothing.
-use Rattle.std.proofs.Common.{◌≡◌, ℕ, ◌+◌, ◌<◌, ◌≤◌, true, false, List, ◌∷◌, length, get_or, drop, sym, subst, drop_of_length-le}
-use Rattle.std.proofs.lemmas.List.{drop_more}
-use Rattle.std.proofs.lemmas.Bool.{both_ways}
+-- What a theory has of a rule, literal by literal. Assumes nothing.
+use Rattle.std.proofs.Common.{◌≡◌, ℕ, zero, suc, ◌<◌, Bool, true, false, List, [], ◌∷◌, length, get_or, refl, arith}
+use Rattle.std.specs.Bool.{Decides, MatchBool}
+use Rattle.std.specs.List.{AllWithin, HoldsAt}
+use Rattle.std.proofs.lemmas.Bool.{both_ways, false≢true}
 use Rattle.logic.specs.Theories.{Theory}
 use Rattle.rules.specs.declared.Literal.{Literal}
 use Rattle.rules.specs.declared.Literal.TheVariants as V
 use Rattle.rules.specs.Rules.{equation_of, Had}
 
--- what is left of a rule at i is had exactly when the rule is
-abbrev pub AsHad : Theory → List Literal → ℕ → Type 0
-AsHad t ls i = (Had t (drop i ls) → Had t ls) × (Had t ls → Had t (drop i ls))
+module _ (t : Theory) where
+  -- a rule is had when its first literal's equation is, and the rest of it is
+  had_first : (x : Literal) (ls : List Literal) → Had t (x ∷ ls) → (t.has (equation_of x) ≡ true) × Had t ls
+  had_first (V.Equal e) ls h = (h.0.0, (h.0.1, h.1))
+  had_first (V.Denied e) ls h = (h.1.0, (h.0, h.1.1))
 
--- a rule is had when its first literal's equation is, and the rest of it is
-had_first : (t : Theory) (x : Literal) (ls : List Literal) → Had t (x ∷ ls) → (t.has (equation_of x) ≡ true) × Had t ls
-had_first t (V.Equal e) ls h = (h.0.0, (h.0.1, h.1))
-had_first t (V.Denied e) ls h = (h.1.0, (h.0, h.1.1))
+  had_both : (x : Literal) (ls : List Literal) → t.has (equation_of x) ≡ true → Had t ls → Had t (x ∷ ls)
+  had_both (V.Equal e) ls f h = ((f, h.0), h.1)
+  had_both (V.Denied e) ls f h = (h.0, (f, h.1))
 
-had_both : (t : Theory) (x : Literal) (ls : List Literal) → t.has (equation_of x) ≡ true → Had t ls → Had t (x ∷ ls)
-had_both t (V.Equal e) ls f h = ((f, h.0), h.1)
-had_both t (V.Denied e) ls f h = (h.0, (f, h.1))
+  had_each : (ls : List Literal) → ((k : ℕ) (d : Literal) → k < length ls → t.has (equation_of (get_or ls k d)) ≡ true) → Had t ls
+  had_each [] each = (tt, tt)
+  had_each (x ∷ ls) each = had_both x ls (each 0 x (omega arith)) (had_each ls (λ k d h. each (suc k) d (omega arith)))
 
-module _ (t : Theory) (ls : List Literal) (i : ℕ) (d : Literal) (h : i < length ls) (so : AsHad t ls i) where
-  front : Had t ls → Had t (get_or ls i d ∷ drop (i + 1) ls)
-  front o = subst (Had t) (drop_more ls i d h) (so.1 o)
+  had_at : (ls : List Literal) (k : ℕ) (d : Literal) → Had t ls → k < length ls → t.has (equation_of (get_or ls k d)) ≡ true
+  had_at [] k d had h = absurd (omega arith)
+  had_at (x ∷ ls) zero d had h = (had_first x ls had).0
+  had_at (x ∷ ls) (suc k) d had h = had_at ls k d (had_first x ls had).1 (omega arith)
 
-  pub had_step : t.has (equation_of (get_or ls i d)) ≡ true → AsHad t ls (i + 1)
-  had_step f = (
-    λ o. so.0 (subst (Had t) (sym (drop_more ls i d h)) (had_both t (get_or ls i d) (drop (i + 1) ls) f o)),
-    λ o. (had_first t (get_or ls i d) (drop (i + 1) ls) (front o)).1,
-  )
-
-  pub had_stop : t.has (equation_of (get_or ls i d)) ≡ false → Had t ls → ⊥
-  had_stop f o = both_ways (t.has (equation_of (get_or ls i d))) f (had_first t (get_or ls i d) (drop (i + 1) ls) (front o)).0
-
-pub had_end : (t : Theory) (ls : List Literal) (i : ℕ) → length ls ≤ i → AsHad t ls i → Had t ls
-had_end t ls i h so = so.0 (let P : List Literal → Type 0 = λ y. Had t y in subst P (sym (drop_of_length-le ls h)) (tt, tt))
+  -- the test of each literal decides it
+  pub had_decides : (ls : List Literal) (b : Bool)
+      → MatchBool b (AllWithin (λ x. t.has (equation_of x) ≡ true) ls 0 (length ls)) ((k : ℕ) × (k < length ls) × HoldsAt (λ x. t.has (equation_of x) ≡ false) ls k)
+      → Decides b (Had t ls)
+  had_decides ls true all = (λ _. had_each ls (λ k d h. all k d (omega arith) h), λ _. refl)
+  had_decides ls false some =
+      let none : Literal = V.Equal (record { left = 0; right = 0 }) in
+      (λ e. absurd (false≢true e), λ had. absurd (both_ways _ (some.2 none) (had_at ls some.0 none had some.1)))

@@ -39,9 +39,9 @@ call_of C.Close = closes
 call_of (C.Ask b) = ask b
 call_of (C.Choice k) = choice k
 
--- The answer that a reply stands for.
-abbrev pub reply_of : Reply → Answer
-reply_of P.Granted = granted
-reply_of (P.Refused r) = refused (refusal_number r)
-reply_of (P.Answered w m) = answered w m
-reply_of (P.Chosen l r) = chosen l r
+-- The answer that a reply or a refusal stands for.
+abbrev pub reply_of : Result Reply Refusal → Answer
+reply_of (Ok P.Granted) = granted
+reply_of (Ok (P.Answered w m)) = answered w m
+reply_of (Ok (P.Chosen l r)) = chosen l r
+reply_of (Err r) = refused (refusal_number r)

@@ -11,8 +11,9 @@ ghost use Rattle.session.specs.Led.{shown_of};
 ghost use Rattle.session.specs.Tells.{Tells};
 ghost use Rattle.session.specs.LedBy.{LedBy, Continues};
 
-use crate::{RULES, Refusal, SCOPES, Session};
-use logic::{Equation, Kind, Logic, ROOM, TellingLogic};
+use crate::{Refusal, Session};
+use bounded::Bounded;
+use logic::{Kind, Logic, ROOM, TellingLogic};
 use rules::Literal;
 use std::alloc::{AllocError, Global};
 use walk::{Rule, Word};
@@ -21,23 +22,18 @@ use walk::{Rule, Word};
 fn has_all<L: Logic>(logic: &L, rule: &[Literal]) -> bool
     ensures { L.Logic.lawful logic.now → Decides result (Had (L.Logic.theory logic.now) rule.now) }
 {
-    for literal in rule {
-        if !logic.has(literal.equation()) {
-            return false;
-        }
-    }
-    true
+    rule.iter().all(|literal| logic.has(literal.equation()))
 }
 
 impl<L: Logic + Drop> Session<L> {
     // Begins a session on the logic, with nothing standing in it. It takes all the memory that the session ever needs.
     pub fn new(heap: Global, logic: L) -> Result<Session<L>, AllocError>
         ensures keeps { L.Logic.lawful logic → IfOk result (λ s. Kept (L.Logic.theory logic) (L.Logic.theory s.logic) (L.Logic.telling logic) (L.Logic.telling s.logic) (L.Logic.lawful s.logic)) }
-        ensures begins { L.Logic.lawful logic → IfOk result (λ s. LedBy L.Logic.theory L.Logic.telling L.Logic.stands L.Logic.lawful s [] []) }
+        ensures begins { L.Logic.lawful logic → IfOk result (λ s. LedBy L.Logic s [] []) }
     {
         let mut logic = logic;
-        let rules = Vec::with_capacity(heap, RULES)?;
-        let scopes = Vec::with_capacity(heap, SCOPES)?;
+        let rules = Bounded::new(heap)?;
+        let scopes = Bounded::new(heap)?;
         let choices = Vec::with_capacity(heap, ROOM)?;
         logic.back(0);
         Ok(Session {
@@ -65,7 +61,7 @@ impl<L: Logic + Drop> Session<L> {
 
     // Adds a rule at the end. Refused with 11, 12, 31, in this order.
     pub fn post(&mut self, literals: &[Literal]) -> Result<(), Refusal>
-        ensures { Continues L.Logic.theory L.Logic.telling L.Logic.stands L.Logic.lawful self.old (post literals.now) (granted_or result) self.new }
+        ensures { Continues L.Logic self.old (post literals.now) (granted_or result) self.new }
     {
         let Some(rule) = Rule::new(literals) else {
             return Err(Refusal::TooLong);
@@ -73,29 +69,25 @@ impl<L: Logic + Drop> Session<L> {
         if !has_all(&self.logic, literals) {
             return Err(Refusal::Foreign);
         }
-        if self.rules.len() == RULES {
-            return Err(Refusal::ManyRules);
-        }
+        self.rules.push(rule).map_err(|_| Refusal::ManyRules)?;
         self.put_away();
-        self.rules.push_reserved(rule);
         Ok(())
     }
 
     // Marks a scope. Refused with 32.
     pub fn open(&mut self) -> Result<(), Refusal>
-        ensures { Continues L.Logic.theory L.Logic.telling L.Logic.stands L.Logic.lawful self.old opens (granted_or result) self.new }
+        ensures { Continues L.Logic self.old opens (granted_or result) self.new }
     {
-        if self.scopes.len() == SCOPES {
-            return Err(Refusal::ManyScopes);
-        }
+        self.scopes
+            .push(self.rules.len())
+            .map_err(|_| Refusal::ManyScopes)?;
         self.put_away();
-        self.scopes.push_reserved(self.rules.len());
         Ok(())
     }
 
     // Removes the newest mark and the rules posted since. Refused with 33.
     pub fn close(&mut self) -> Result<(), Refusal>
-        ensures { Continues L.Logic.theory L.Logic.telling L.Logic.stands L.Logic.lawful self.old closes (granted_or result) self.new }
+        ensures { Continues L.Logic self.old closes (granted_or result) self.new }
     {
         let Some(start) = self.scopes.pop() else {
             return Err(Refusal::NoScope);
@@ -107,7 +99,7 @@ impl<L: Logic + Drop> Session<L> {
 
     // Runs the walk with at most `budget` trials: the word of the answer, and the trials made. It is never refused.
     pub fn ask(&mut self, budget: u64) -> (Word, u64)
-        ensures { Continues L.Logic.theory L.Logic.telling L.Logic.stands L.Logic.lawful self.old (ask budget) (answered result.0 result.1) self.new }
+        ensures { Continues L.Logic self.old (ask budget) (answered result.0 result.1) self.new }
     {
         self.put_away();
         let (word, trials) = walk::ask(
@@ -122,31 +114,27 @@ impl<L: Logic + Drop> Session<L> {
 
     // The left and the right of the k-th choice of the shown answer, from 0. Refused with 34, then 18.
     pub fn choice(&self, k: usize) -> Result<(u16, u16), Refusal>
-        ensures { Continues L.Logic.theory L.Logic.telling L.Logic.stands L.Logic.lawful self.now (choice k) (chosen_or result) self.now }
+        ensures { Continues L.Logic self.now (choice k) (chosen_or result) self.now }
     {
         if !self.shown {
             return Err(Refusal::NothingShown);
         }
-        if k >= self.choices.len() {
-            return Err(Refusal::NoChoice);
+        match self.choices.get(k) {
+            Some(e) => Ok((e.left, e.right)),
+            None => Err(Refusal::NoChoice),
         }
-        let e = self.choices[k];
-        Ok((e.left, e.right))
     }
 }
 
 impl<L: TellingLogic + Drop> Session<L> {
     // What the example of the shown answer has at the place of the number. Refused with 34, then 17.
     pub fn tell(&self, number: u16) -> Result<(Kind, u32), Refusal>
-        ensures { (cs : List Asking) (rs : List Answer) → LedBy L.Logic.theory L.Logic.telling L.Logic.stands L.Logic.lawful self.now cs rs → Tells (L.Logic.telling self.now.logic) (shown_of self.now.shown self.now.choices.items) number result }
+        ensures { (cs : List Asking) (rs : List Answer) → LedBy L.Logic self.now cs rs → Tells (L.Logic.telling self.now.logic) (shown_of self.now.shown self.now.choices.items) number result }
     {
         if !self.shown {
             return Err(Refusal::NothingShown);
         }
-        match self.logic.tell(number) {
-            Ok(told) => Ok(told),
-            Err(_) => Err(Refusal::Untold),
-        }
+        self.logic.tell(number).map_err(|_| Refusal::Untold)
     }
 }
 

@@ -3,10 +3,13 @@
 
 #![tactic(auto)]
 
-ghost use Rattle.std.specs.Prelude.{◌≤◌, vec_len, vec_capacity};
+ghost use Rattle.std.specs.Prelude.{◌≤◌, vec_capacity};
 
+use bounded::Bounded;
 use logic::Equation;
 use rules::Literal;
+use std::error::Error;
+use std::fmt;
 use walk::{Rule, Word};
 
 mod calls;
@@ -50,12 +53,11 @@ pub enum Call<'a> {
     Choice(usize),
 }
 
-// The reply to a call.
+// The reply to a call that is not refused.
 #[derive(Clone, Copy, PartialEq, Eq, Debug)]
 pub enum Reply {
     // A post, open or close was granted.
     Granted,
-    Refused(Refusal),
     // The word of an ask, and its trials.
     Answered(Word, u64),
     // The left and the right of a choice.
@@ -67,12 +69,49 @@ pub enum Reply {
 pub struct Session<L> {
     logic: L,
     // The standing rules, oldest first.
-    rules: Vec<Rule>,
+    rules: Bounded<Rule, RULES>,
     // For each open scope how many rules stood when it was opened.
-    scopes: Vec<usize>,
-    // What stands in the logic: the choices of the shown answer, and else nothing.
+    scopes: Bounded<usize, SCOPES>,
+    // What stands in the logic: the choices of the shown answer, and else nothing. An `Option` would lose their memory, which
+    // is taken once, where nothing is shown: so whether an answer is shown stands beside them.
     choices: Vec<Equation>,
     shown: bool,
-    ghost room: { (256 ≤ vec_capacity rules) × (32 ≤ vec_capacity scopes) × (256 ≤ vec_capacity choices) },
-    ghost few: { (vec_len rules ≤ 256) × (vec_len scopes ≤ 32) },
+    ghost room: { 256 ≤ vec_capacity choices },
+}
+
+impl fmt::Display for Refusal {
+    fn fmt<W: fmt::Write>(&self, f: &mut fmt::Formatter<W>) -> fmt::Result {
+        write!(f, "refused {}", self.number())
+    }
+}
+
+impl Error for Refusal {}
+
+impl fmt::Display for Reply {
+    fn fmt<W: fmt::Write>(&self, f: &mut fmt::Formatter<W>) -> fmt::Result {
+        match self {
+            Reply::Granted => write!(f, "granted"),
+            Reply::Answered(word, trials) => write!(f, "{word} {trials}"),
+            Reply::Chosen(left, right) => write!(f, "{left} = {right}"),
+        }
+    }
+}
+
+impl<'a> fmt::Display for Call<'a> {
+    fn fmt<W: fmt::Write>(&self, f: &mut fmt::Formatter<W>) -> fmt::Result {
+        match self {
+            Call::Post(literals) => {
+                write!(f, "post")?;
+                for (place, literal) in literals.iter().enumerate() {
+                    let bar = if place == 0 { " " } else { " | " };
+                    write!(f, "{bar}{literal}")?;
+                }
+                Ok(())
+            }
+            Call::Open => write!(f, "open"),
+            Call::Close => write!(f, "close"),
+            Call::Ask(budget) => write!(f, "ask {budget}"),
+            Call::Choice(k) => write!(f, "choice {k}"),
+        }
+    }
 }

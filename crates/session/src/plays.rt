@@ -1,7 +1,7 @@
 // Calls as values, one by one and a whole list of them.
 
 ghost use Rattle.std.specs.Prelude.{◌≡◌, IfOk};
-ghost use Rattle.session.specs.Replies.{call_of, reply_of, granted_or};
+ghost use Rattle.session.specs.Replies.{call_of, reply_of};
 ghost use Rattle.session.specs.LedBy.{Continues, Plays};
 
 use crate::{Call, Refusal, Reply, Session};
@@ -10,32 +10,23 @@ use std::alloc::{AllocError, Global};
 
 impl<L: Logic + Drop> Session<L> {
     // Makes the call, and gives the reply to it.
-    pub fn call(&mut self, call: Call) -> Reply
-        ensures { Continues L.Logic.theory L.Logic.telling L.Logic.stands L.Logic.lawful self.old (call_of call.entry) (reply_of result) self.new }
+    pub fn call(&mut self, call: Call) -> Result<Reply, Refusal>
+        ensures { Continues L.Logic self.old (call_of call.entry) (reply_of result) self.new }
     {
         match call {
-            Call::Post(literals) => granted(self.post(literals)),
-            Call::Open => granted(self.open()),
-            Call::Close => granted(self.close()),
+            Call::Post(literals) => self.post(literals)?,
+            Call::Open => self.open()?,
+            Call::Close => self.close()?,
             Call::Ask(budget) => {
                 let (word, trials) = self.ask(budget);
-                Reply::Answered(word, trials)
+                return Ok(Reply::Answered(word, trials));
             }
-            Call::Choice(k) => match self.choice(k) {
-                Ok((left, right)) => Reply::Chosen(left, right),
-                Err(refusal) => Reply::Refused(refusal),
-            },
+            Call::Choice(k) => {
+                let (left, right) = self.choice(k)?;
+                return Ok(Reply::Chosen(left, right));
+            }
         }
-    }
-}
-
-// The reply to a post, an open or a close.
-fn granted(answer: Result<(), Refusal>) -> Reply
-    ensures { reply_of result ≡ granted_or answer }
-{
-    match answer {
-        Ok(_) => Reply::Granted,
-        Err(refusal) => Reply::Refused(refusal),
+        Ok(Reply::Granted)
     }
 }
 
@@ -45,8 +36,8 @@ pub fn play<L: Logic + Drop>(
     heap: Global,
     logic: L,
     calls: &[Call],
-) -> Result<(Session<L>, Vec<Reply>), AllocError>
-    ensures { L.Logic.lawful logic → IfOk result (λ p. Plays L.Logic.theory L.Logic.telling L.Logic.stands L.Logic.lawful logic calls.now p.0 p.1.items) }
+) -> Result<(Session<L>, Vec<Result<Reply, Refusal>>), AllocError>
+    ensures { L.Logic.lawful logic → IfOk result (λ p. Plays L.Logic logic calls.now p.0 p.1.items) }
 {
     let mut replies = Vec::with_capacity(heap, calls.len())?;
     let mut session = Session::new(heap, logic)?;

@@ -1,6 +1,6 @@
--- The share of a side in a list that grows, is cut, or is gone through. Assumes nothing.
-use Rattle.std.proofs.Common.{◌≡◌, ℕ, zero, suc, ◌+◌, ◌<◌, ◌≤◌, true, false, cond, List, [], ◌∷◌, ◌++◌, length, get_or, take, drop, Some, None, Option, refl, ap, ◌∙◌, arith, drop_of_length-le}
-use Rattle.std.proofs.lemmas.List.{drop_more}
+-- The share of a side in a list that grows or is cut, and how long it is. Assumes nothing.
+use Rattle.std.proofs.Common.{◌≡◌, ℕ, zero, suc, ◌≤◌, Bool, true, false, cond, List, [], ◌∷◌, ◌++◌, length, take, Some, None, Option, sym, refl, ap, ◌∙◌, arith}
+use Rattle.std.specs.List.{filter}
 use Rattle.logic.specs.declared.Equation.{Equation}
 use Rattle.sides.specs.declared.Side.{Side}
 use Rattle.sides.specs.declared.Side.TheVariants.{First, Second}
@@ -62,16 +62,17 @@ share_take s zero es = refl
 share_take s (suc n) [] = refl
 share_take s (suc n) (x ∷ es) = keep_take s (part_of x) (share s (take n es)) (share s es) (share_take s n es)
 
--- going through a list, one by one
-module _ (s : Side) (es : List Equation) (i : ℕ) where
-  next : (d : Equation) → i < length es → length (share s (drop i es)) ≡ cond (belongs s (part_of (get_or es i d))) (suc (length (share s (drop (i + 1) es)))) (length (share s (drop (i + 1) es)))
-  next d h = ap (λ x. length (share s x)) (drop_more es i d h) ∙ keep_length s (part_of (get_or es i d)) (share s (drop (i + 1) es))
+-- a share is as long as the list of the equations that belong to its side
+filter_length : (test : Equation → Bool) (x : Equation) (es : List Equation)
+    → length (filter test (x ∷ es)) ≡ cond (test x) (suc (length (filter test es))) (length (filter test es))
+filter_length test x es = chosen (test x)
+  where
+    chosen : (b : Bool) → length (cond b (x ∷ filter test es) (filter test es)) ≡ cond b (suc (length (filter test es))) (length (filter test es))
+    chosen true = refl
+    chosen false = refl
 
-  pub counts : (d : Equation) → i < length es → belongs s (part_of (get_or es i d)) ≡ true → length (share s (drop i es)) ≡ suc (length (share s (drop (i + 1) es)))
-  counts d h p = next d h ∙ ap (λ b. cond b (suc (length (share s (drop (i + 1) es)))) (length (share s (drop (i + 1) es)))) p
-
-  pub passes : (d : Equation) → i < length es → belongs s (part_of (get_or es i d)) ≡ false → length (share s (drop i es)) ≡ length (share s (drop (i + 1) es))
-  passes d h p = next d h ∙ ap (λ b. cond b (suc (length (share s (drop (i + 1) es)))) (length (share s (drop (i + 1) es)))) p
-
-  pub ends : length es ≤ i → length (share s (drop i es)) ≡ 0
-  ends h = ap (λ x. length (share s x)) (drop_of_length-le es h)
+pub share_filtered : (s : Side) (es : List Equation) → length (filter (λ e. belongs s (part_of e)) es) ≡ length (share s es)
+share_filtered s [] = refl
+share_filtered s (x ∷ es) =
+    filter_length (λ e. belongs s (part_of e)) x es ∙ ap (λ n. cond (belongs s (part_of x)) (suc n) n) (share_filtered s es)
+    ∙ sym (keep_length s (part_of x) (share s es))

@@ -10,7 +10,7 @@ ghost use Rattle.std.proofs.Common.{rules};
 ghost use Rattle.switches.specs.Tells.{switch_named, switch_single};
 
 use lights::{Lights, SWITCHES};
-use logic::{Assumed, Equation, Kind, Logic, ROOM, Refusal, TellingLogic};
+use logic::{Assumed, Equation, Kind, Logic, Refusal, TellingLogic};
 use std::alloc::{AllocError, Global};
 
 mod lights;
@@ -25,7 +25,7 @@ pub struct Switches {
 impl Switches {
     // Switches of which none is on.
     pub fn new(heap: Global) -> Result<Switches, AllocError>
-        ensures { IfOk result (λ s. s.lights.standing.items ≡ []) }
+        ensures { IfOk result (λ s. s.lights.standing.vec.items ≡ []) }
     {
         let lights = Lights::new(heap)?;
         Ok(Switches { lights })
@@ -37,13 +37,13 @@ impl Logic for Switches {
 
     ghost telling = { λ _. switch_telling };
 
-    ghost stands = { λ s. s.lights.standing.items };
+    ghost stands = { λ s. s.lights.standing.vec.items };
 
     ghost lawful = { λ _. Unit {0} };
 
     ghost few = { Prim.search rules };
 
-    ghost freest = { λ s good. (told_by s.lights.standing.items, told_freest s.lights.standing.items) };
+    ghost freest = { λ s good. (told_by s.lights.standing.vec.items, told_freest s.lights.standing.vec.items) };
 
     fn has(&self, e: Equation) -> bool {
         e.left < SWITCHES && e.right == 0
@@ -57,14 +57,12 @@ impl Logic for Switches {
         self.lights.len()
     }
 
+    #[tactic(auto, using(crate::specs::Forcing::no_clash))]
     fn assume(&mut self, e: Equation) -> Result<Assumed, Refusal> {
         if !self.has(e) {
             return Err(Refusal::Foreign);
         }
-        if self.standing() == ROOM {
-            return Err(Refusal::Full);
-        }
-        self.lights.push(e);
+        self.lights.push(e)?;
         Ok(Assumed::Taken)
     }
 
@@ -74,13 +72,13 @@ impl Logic for Switches {
 }
 
 impl TellingLogic for Switches {
-    ghost told = { λ s. told_by s.lights.standing.items };
+    ghost told = { λ s. told_by s.lights.standing.vec.items };
 
-    ghost free = { λ s good. told_freest s.lights.standing.items };
+    ghost free = { λ s good. told_freest s.lights.standing.vec.items };
 
-    ghost named = { λ s n a good. switch_named s.lights.standing.items n a };
+    ghost named = { λ s n a good. switch_named s.lights.standing.vec.items n a };
 
-    ghost single = { λ s n a b good. switch_single s.lights.standing.items n a b };
+    ghost single = { λ s n a b good. switch_single s.lights.standing.vec.items n a b };
 
     ghost refusal = { Prim.search rules };
 

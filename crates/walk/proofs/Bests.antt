@@ -1,11 +1,12 @@
 -- The steps of the loop that picks a rule. Assumes nothing.
 use Rattle.std.proofs.Common.{◌≡◌, ℕ, ◌+◌, ◌<◌, ◌≤◌, List, [], length, get_or, Some, None, Option, sym, ap, ◌∙◌, subst, arith, below_more}
+use Rattle.std.specs.Option.{IfSome, MatchOption}
 use Rattle.std.proofs.lemmas.List.{get_or-map}
 use Rattle.logic.specs.Theories.{Theory}
 use Rattle.logic.specs.declared.Equation.{Equation}
 use Rattle.rules.specs.declared.Literal.{Literal}
 use Rattle.rules.specs.Rules.{width}
-use Rattle.rules.specs.Openness.{Open, Settled, TakenRule}
+use Rattle.rules.specs.Openness.{Open, Settled}
 use Rattle.rules.proofs.Basics.{settled_shut}
 use Rattle.walk.specs.declared.rule.Rule.{Rule}
 use Rattle.walk.specs.Written.{literals_of, written}
@@ -37,9 +38,9 @@ module _ (t : Theory) (S : List Equation) (R : List (List Literal)) (i : ℕ) (r
         earliest = best.earliest;
       }
 
-  -- it is open, and the first
-  pub begin : (w : ℕ) → Open t S r → w ≡ width r → BestOf t S R i None → Best t S R (i + 1) i w
-  begin w o e none =
+  -- it is open, with fewer equations than the best, if there is one
+  pub better : (b : Option (ℕ × ℕ)) (w : ℕ) → Open t S r → w ≡ width r → IfSome b (λ p. w < p.1) → BestOf t S R i b → Best t S R (i + 1) i w
+  better None w o e less none =
       record {
         within = omega arith;
         opens = opens o;
@@ -47,10 +48,7 @@ module _ (t : Theory) (S : List Equation) (R : List (List Literal)) (i : ℕ) (r
         fewest = below_more (λ j. Open t S (get_or R j []) → w ≤ width (get_or R j [])) i (λ j h p. absurd (settled_shut t S (get_or R j []) (none j h) p)) (λ p. omega (arith, wide_at w e));
         earliest = λ j h p. absurd (settled_shut t S (get_or R j []) (none j h) p);
       }
-
-  -- it is open, with fewer equations than the best
-  pub better : (k v w : ℕ) → Open t S r → w ≡ width r → w < v → Best t S R i k v → Best t S R (i + 1) i w
-  better k v w o e less best =
+  better (Some b) w o e less best =
       record {
         within = omega arith;
         opens = opens o;
@@ -59,28 +57,17 @@ module _ (t : Theory) (S : List Equation) (R : List (List Literal)) (i : ℕ) (r
         earliest = λ j h p. let q = best.fewest j h p in omega arith;
       }
 
-  -- it is open, with as many or more
-  pub worse : (k v w : ℕ) → w ≡ width r → v ≤ w → Best t S R i k v → Best t S R (i + 1) k v
-  worse k v w e more best =
+  -- it is open, with as many as the best or more
+  pub worse : (b : Option (ℕ × ℕ)) (w : ℕ) → w ≡ width r → MatchOption b ⊥ (λ p. p.1 ≤ w) → BestOf t S R i b → BestOf t S R (i + 1) b
+  worse None w e more none = absurd more
+  worse (Some b) w e more best =
       record {
         within = omega (arith, best.within);
         opens = best.opens;
         wide = best.wide;
-        fewest = below_more (λ j. Open t S (get_or R j []) → v ≤ width (get_or R j [])) i best.fewest (λ p. omega (arith, wide_at w e));
+        fewest = below_more (λ j. Open t S (get_or R j []) → b.1 ≤ width (get_or R j [])) i best.fewest (λ p. omega (arith, wide_at w e));
         earliest = best.earliest;
       }
-
-pub taken : (t : Theory) (S : List Equation) (R : List (List Literal)) (i k w : ℕ) → length R ≡ i → Best t S R i k w → TakenRule t S R k
-taken t S R i k w e best =
-    record {
-      within = omega (arith, best.within);
-      opens = best.opens;
-      fewest = λ j h o. let q = best.fewest j (omega arith) o in omega (arith, best.wide);
-      earliest = λ j h o. let q = best.earliest j h o in omega (arith, best.wide);
-    }
-
-pub at_best : (t : Theory) (S : List Equation) (R : List (List Literal)) (i : ℕ) (b d : Option (ℕ × ℕ)) → b ≡ d → BestOf t S R i b → BestOf t S R i d
-at_best t S R i b d e best = let P : Option (ℕ × ℕ) → Type 0 = λ x. BestOf t S R i x in subst P e best
 
 pub within_more : (i : ℕ) (b : Option (ℕ × ℕ)) → Within i b → Within (i + 1) b
 within_more i None h = tt

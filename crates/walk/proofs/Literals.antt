@@ -1,54 +1,53 @@
--- The steps of the loops over a rule's literals. Assumes nothing.
-use Rattle.std.proofs.Common.{◌≡◌, ℕ, zero, suc, ◌+◌, ◌<◌, ◌≤◌, List, [], ◌∷◌, length, get_or, drop, sym, refl, ap, ◌∙◌, subst, inl, inr, arith, drop_of_length-le}
+-- What a rule's literals say of the rule. Assumes nothing.
+use Rattle.std.proofs.Common.{◌≡◌, ℕ, zero, suc, ◌+◌, ◌<◌, Bool, true, false, List, [], ◌∷◌, length, get_or, drop, sym, refl, ap, ◌∙◌, subst, inl, inr, arith}
+use Rattle.std.specs.Bool.{MatchBool}
+use Rattle.std.specs.List.{filter, AllWithin, HoldsAt}
 use Rattle.std.proofs.lemmas.List.{drop_more}
-use Rattle.logic.specs.Theories.{Theory, Forced}
+use Rattle.logic.specs.Theories.{Theory}
 use Rattle.logic.specs.declared.Equation.{Equation}
 use Rattle.rules.specs.declared.Literal.{Literal}
 use Rattle.rules.specs.declared.Literal.TheVariants as V
 use Rattle.rules.specs.Rules.{equations, width}
 use Rattle.rules.specs.Openness.{Open, Settled}
 use Rattle.rules.proofs.Basics.{In}
+use Rattle.walk.specs.Picks.{Leaves, Settles, Judged}
 
 pub drop_at : (ls : List Literal) (i : ℕ) (d x : Literal) → i < length ls → get_or ls i d ≡ x → drop i ls ≡ x ∷ drop (i + 1) ls
 drop_at ls i d x h e = drop_more ls i d h ∙ ap (λ y. y ∷ drop (i + 1) ls) e
 
--- what is left of a rule at i: if it is open, so is the rule, and if it is settled, so is the rule
-abbrev pub Left : Theory → List Equation → List Literal → ℕ → Type 0
-Left t S ls i = (Open t S (drop i ls) → Open t S ls) × (Settled t S (drop i ls) → Settled t S ls)
+-- whether the literal is an equation
+abbrev pub asserts : Literal → Bool
+asserts (V.Equal e) = true
+asserts (V.Denied e) = false
 
-module _ (t : Theory) (S : List Equation) (ls : List Literal) (i : ℕ) (d : Literal) (e : Equation) (h : i < length ls) (left : Left t S ls i) where
-  opens : (x : Literal) → get_or ls i d ≡ x → Open t S (x ∷ drop (i + 1) ls) → Open t S ls
-  opens x p o = left.0 (let P : List Literal → Type 0 = λ y. Open t S y in subst P (sym (drop_at ls i d x h p)) o)
+-- the equations are as many as the literals that are one
+pub asserted_width : (ls : List Literal) → length (filter asserts ls) ≡ width ls
+asserted_width [] = refl
+asserted_width (V.Equal e ∷ ls) = ap suc (asserted_width ls)
+asserted_width (V.Denied e ∷ ls) = asserted_width ls
 
-  settles : (x : Literal) → get_or ls i d ≡ x → Settled t S (x ∷ drop (i + 1) ls) → Settled t S ls
-  settles x p o = left.1 (let P : List Literal → Type 0 = λ y. Settled t S y in subst P (sym (drop_at ls i d x h p)) o)
+module _ (t : Theory) (S : List Equation) where
+  -- a rule that each literal leaves open is open
+  pub open_all : (ls : List Literal) → ((k : ℕ) (d : Literal) → k < length ls → Leaves t S (get_or ls k d)) → Open t S ls
+  open_all [] all = (tt, tt)
+  open_all (V.Equal e ∷ ls) all =
+      let o = open_all ls (λ k d h. all (suc k) d (omega arith)) in (o.0, (all 0 (V.Equal e) (omega arith), o.1))
+  open_all (V.Denied e ∷ ls) all =
+      let o = open_all ls (λ k d h. all (suc k) d (omega arith)) in ((all 0 (V.Denied e) (omega arith), o.0), o.1)
 
-  pub equal_step : get_or ls i d ≡ V.Equal e → (Forced t S e → ⊥) → Left t S ls (i + 1)
-  equal_step p f = (λ o. opens (V.Equal e) p (o.0, (f, o.1)), λ o. settles (V.Equal e) p (inr o))
+  -- one literal that settles a rule is enough
+  pub settled_at : (ls : List Literal) (k : ℕ) (d : Literal) → k < length ls → Settles t S (get_or ls k d) → Settled t S ls
+  settled_at [] k d h s = absurd (omega arith)
+  settled_at (V.Equal e ∷ ls) zero d h s = inl s
+  settled_at (V.Denied e ∷ ls) zero d h s = inl s
+  settled_at (V.Equal e ∷ ls) (suc k) d h s = inr (settled_at ls k d (omega arith) s)
+  settled_at (V.Denied e ∷ ls) (suc k) d h s = inr (settled_at ls k d (omega arith) s)
 
-  pub equal_stop : get_or ls i d ≡ V.Equal e → Forced t S e → Settled t S ls
-  equal_stop p f = settles (V.Equal e) p (inl f)
-
-  pub denied_step : get_or ls i d ≡ V.Denied e → Forced t S e → Left t S ls (i + 1)
-  denied_step p f = (λ o. opens (V.Denied e) p ((f, o.0), o.1), λ o. settles (V.Denied e) p (inr o))
-
-  pub denied_stop : get_or ls i d ≡ V.Denied e → (Forced t S e → ⊥) → Settled t S ls
-  denied_stop p f = settles (V.Denied e) p (inl f)
-
-pub open_end : (t : Theory) (S : List Equation) (ls : List Literal) (i : ℕ) → length ls ≤ i → Left t S ls i → Open t S ls
-open_end t S ls i h left =
-    left.0 (let P : List Literal → Type 0 = λ y. Open t S y in subst P (sym (drop_of_length-le ls h)) (tt, tt))
-
-pub equal_width : (ls : List Literal) (i : ℕ) (d : Literal) (e : Equation) → i < length ls → get_or ls i d ≡ V.Equal e
-    → width (drop i ls) ≡ suc (width (drop (i + 1) ls))
-equal_width ls i d e h p = ap width (drop_at ls i d (V.Equal e) h p)
-
-pub denied_width : (ls : List Literal) (i : ℕ) (d : Literal) (e : Equation) → i < length ls → get_or ls i d ≡ V.Denied e
-    → width (drop i ls) ≡ width (drop (i + 1) ls)
-denied_width ls i d e h p = ap width (drop_at ls i d (V.Denied e) h p)
-
-pub no_width : (ls : List Literal) (i : ℕ) → length ls ≤ i → width (drop i ls) ≡ 0
-no_width ls i h = ap width (drop_of_length-le ls h)
+  -- what all literals together come to
+  pub judged : (ls : List Literal) (b : Bool)
+      → MatchBool b (AllWithin (Leaves t S) ls 0 (length ls)) ((k : ℕ) × (k < length ls) × HoldsAt (Settles t S) ls k) → Judged t S ls b
+  judged ls true all = open_all ls (λ k d h. all k d (omega arith) h)
+  judged ls false some = settled_at ls some.0 (V.Equal (record { left = 0; right = 0 })) some.1 (some.2 _)
 
 -- an equation that stands among the literals is one of the rule's
 pub in_at : (ls : List Literal) (i : ℕ) (d : Literal) (e : Equation) → i < length ls → get_or ls i d ≡ V.Equal e → In e (equations ls)

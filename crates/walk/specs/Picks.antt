@@ -1,10 +1,21 @@
 -- What a rule is judged to be, and the pick among rules. Assumes nothing.
 use Rattle.std.specs.Prelude.{◌≡◌, ℕ, ◌<◌, ◌≤◌, Bool, true, false, List, [], Some, None, Option, slice_index_or}
-use Rattle.logic.specs.Theories.{Theory}
+use Rattle.logic.specs.Theories.{Theory, Forced}
 use Rattle.logic.specs.declared.Equation.{Equation}
 use Rattle.rules.specs.declared.Literal.{Literal}
+use Rattle.rules.specs.declared.Literal.TheVariants as V
 use Rattle.rules.specs.Rules.{width}
 use Rattle.rules.specs.Openness.{Open, Settled, AllSettled, TakenRule}
+
+-- Where S stand, the literal leaves its rule open: an equation that is not forced, or a denied one that is.
+abbrev pub Leaves : Theory → List Equation → Literal → Type 0
+Leaves t S (V.Equal e) = Forced t S e → ⊥
+Leaves t S (V.Denied e) = Forced t S e
+
+-- It settles its rule: an equation that is forced, or a denied one that is not.
+abbrev pub Settles : Theory → List Equation → Literal → Type 0
+Settles t S (V.Equal e) = Forced t S e
+Settles t S (V.Denied e) = Forced t S e → ⊥
 
 -- Where S stand, the rule is open, or else it is settled.
 abbrev pub Judged : Theory → List Equation → List Literal → Bool → Type 0

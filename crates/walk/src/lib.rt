@@ -3,16 +3,17 @@
 
 #![tactic(auto)]
 
-ghost use Rattle.std.specs.Prelude.{◌≡◌, ◌+◌, ◌<◌, ◌≤◌, [], length, IfSome, vec_len, vec_capacity};
+ghost use Rattle.std.specs.Prelude.{◌≡◌, ◌+◌, ◌<◌, ◌≤◌, [], length, IfSome, MatchBool, vec_len, vec_capacity};
 ghost use Rattle.logic.specs.Answers.{Keeps};
 ghost use Rattle.rules.specs.Rules.{width as width_of, HadAll};
 ghost use Rattle.rules.specs.Marks.{Ready};
 ghost use Rattle.walk.specs.Written.{written};
-ghost use Rattle.walk.specs.Picks.{Judged, Picks};
+ghost use Rattle.walk.specs.Picks.{Leaves, Settles, Judged, Picks};
 ghost use Rattle.walk.specs.Walked.{Tried, is_found, IfNone, Walked, Asked};
 
 use logic::{Assumed, Equation, Logic};
 use rules::Literal;
+use std::fmt;
 
 mod rule;
 
@@ -34,10 +35,16 @@ impl Word {
     pub fn is_found(self) -> bool
         ensures { result ≡ is_found self }
     {
+        matches!(self, Word::Found)
+    }
+}
+
+impl fmt::Display for Word {
+    fn fmt<W: fmt::Write>(&self, f: &mut fmt::Formatter<W>) -> fmt::Result {
         match self {
-            Word::Found => true,
-            Word::None => false,
-            Word::Spent => false,
+            Word::Found => write!(f, "found"),
+            Word::None => write!(f, "none"),
+            Word::Spent => write!(f, "spent"),
         }
     }
 }
@@ -51,7 +58,7 @@ pub fn ask<L: Logic>(
     budget: u64,
 ) -> (Word, u64)
     ensures capacity { vec_capacity choices.new ≡ vec_capacity choices.old }
-    ensures asks { L.Logic.lawful logic.old → L.Logic.stands logic.old ≡ [] → HadAll (L.Logic.theory logic.old) (written rules.now) → length rules.now ≤ 256 → 256 ≤ vec_capacity choices.old → Asked L.Logic.theory L.Logic.telling L.Logic.stands L.Logic.lawful (written rules.now) budget logic.old result.0 result.1 logic.new choices.new.items }
+    ensures asks { L.Logic.lawful logic.old → L.Logic.stands logic.old ≡ [] → HadAll (L.Logic.theory logic.old) (written rules.now) → length rules.now ≤ 256 → 256 ≤ vec_capacity choices.old → Asked L.Logic (written rules.now) budget logic.old result.0 result.1 logic.new choices.new.items }
 {
     choices.clear();
     let depth = rules.len().min(choices.capacity());
@@ -78,7 +85,7 @@ fn walk<L: Logic>(
     ensures trials { result.1 ≤ budget }
     ensures capacity { vec_capacity choices.new ≡ vec_capacity choices.old }
     ensures bare { IfNone result.0 (choices.new.items ≡ choices.old.items) }
-    ensures walks { L.Logic.lawful logic.old → choices.old.items ≡ L.Logic.stands logic.old → Ready (L.Logic.theory logic.old) (written rules.now) (L.Logic.stands logic.old) depth → Walked L.Logic.theory L.Logic.telling L.Logic.stands L.Logic.lawful (written rules.now) budget logic.old made result.0 result.1 logic.new choices.new.items }
+    ensures walks { L.Logic.lawful logic.old → choices.old.items ≡ L.Logic.stands logic.old → Ready (L.Logic.theory logic.old) (written rules.now) (L.Logic.stands logic.old) depth → Walked L.Logic (written rules.now) budget logic.old made result.0 result.1 logic.new choices.new.items }
 {
     let Some(k) = pick(logic, rules) else {
         return (Word::Found, made);
@@ -118,11 +125,7 @@ fn takes<L: Logic>(logic: &mut L, e: Equation) -> bool
     ensures keeps { Keeps L.Logic.theory L.Logic.telling L.Logic.lawful logic.old logic.new }
     ensures tried { L.Logic.lawful logic.old → Tried (L.Logic.theory logic.old) (L.Logic.stands logic.old) e result (L.Logic.stands logic.new) }
 {
-    match logic.assume(e) {
-        Ok(Assumed::Taken) => true,
-        Ok(Assumed::Clash) => false,
-        Err(_) => false,
-    }
+    matches!(logic.assume(e), Ok(Assumed::Taken))
 }
 
 // The open rule with the fewest equations, the earliest among equals.
@@ -131,56 +134,40 @@ fn pick<L: Logic>(logic: &L, rules: &[Rule]) -> Option<usize>
     ensures picks { L.Logic.lawful logic.now → Picks (L.Logic.theory logic.now) (L.Logic.stands logic.now) (written rules.now) result }
 {
     let mut best: Option<(usize, usize)> = None;
-    for i in 0..rules.len() {
-        let rule = rules[i].literals();
+    for (i, rule) in rules.iter().enumerate() {
+        let rule = rule.literals();
         if is_open(logic, rule) {
             let wide = width(rule);
-            match best {
-                Some((_, least)) => {
-                    if wide < least {
-                        best = Some((i, wide));
-                    }
-                }
-                None => best = Some((i, wide)),
+            if best.is_none_or(|(_, least)| wide < least) {
+                best = Some((i, wide));
             }
         }
     }
-    match best {
-        Some((k, _)) => Some(k),
-        None => None,
-    }
+    best.map(|(k, _)| k)
 }
 
 // Whether the rule is open: its denied equations are all forced, and none of its equations is.
 fn is_open<L: Logic>(logic: &L, rule: &[Literal]) -> bool
     ensures { L.Logic.lawful logic.now → Judged (L.Logic.theory logic.now) (L.Logic.stands logic.now) rule.now result }
 {
-    for literal in rule {
-        match *literal {
-            Literal::Equal(e) => {
-                if logic.forced(e) {
-                    return false;
-                }
-            }
-            Literal::Denied(e) => {
-                if !logic.forced(e) {
-                    return false;
-                }
-            }
-        }
+    rule.iter().all(|literal| leaves_open(logic, *literal))
+}
+
+// Whether the literal leaves its rule open, and does not settle it.
+fn leaves_open<L: Logic>(logic: &L, literal: Literal) -> bool
+    ensures { L.Logic.lawful logic.now → MatchBool result (Leaves (L.Logic.theory logic.now) (L.Logic.stands logic.now) literal) (Settles (L.Logic.theory logic.now) (L.Logic.stands logic.now) literal) }
+{
+    match literal {
+        Literal::Equal(e) => !logic.forced(e),
+        Literal::Denied(e) => logic.forced(e),
     }
-    true
 }
 
 // How many equations a rule has, repeats counted.
 fn width(rule: &[Literal]) -> usize
     ensures { result ≡ width_of rule.now }
 {
-    let mut n = 0;
-    for literal in rule {
-        if let Literal::Equal(_) = literal {
-            n += 1;
-        }
-    }
-    n
+    rule.iter()
+        .filter(|literal| matches!(literal, Literal::Equal(_)))
+        .count()
 }

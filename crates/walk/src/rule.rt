@@ -23,8 +23,10 @@ impl Rule {
         if literals.len() > LITERALS {
             return None;
         }
+        let mut places = [Literal::denied(0, 0); LITERALS];
+        places[..literals.len()].copy_from_slice(literals);
         Some(Rule {
-            literals: copied(literals),
+            literals: places,
             len: literals.len(),
         })
     }
@@ -35,16 +37,4 @@ impl Rule {
     {
         &self.literals[0..self.len]
     }
-}
-
-// Sixteen places that begin with these literals.
-fn copied(literals: &[Literal]) -> [Literal; 16]
-    requires { length literals.now ≤ 16 }
-    ensures { take (length literals.now) result ≡ literals.now }
-{
-    let mut places = [Literal::Denied(Equation { left: 0, right: 0 }); 16];
-    for (place, literal) in literals.iter().enumerate() {
-        places[place] = *literal;
-    }
-    places
 }

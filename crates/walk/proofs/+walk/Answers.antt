@@ -18,7 +18,7 @@ returns-in_default g x c =
       capacity = refl;
       bare = tt;
       walks = λ good shown ready.
-          walked_found m.theory m.telling m.stands m.lawful (written c.args.rules.now) c.args.budget c.args.logic.now c.args.made (vec_items c.args.choices.now) good (c.in_default.ensures.picks good) shown;
+          walked_found m (written c.args.rules.now) c.args.budget c.args.logic.now c.args.made (vec_items c.args.choices.now) good (c.in_default.ensures.picks good) shown;
     }
 
 pub returns-then-depth-eq0 : goal.returns-then-depth-eq0
@@ -45,7 +45,7 @@ loop-literal-init g x c =
       refl,
       c.requires.affords,
       λ good shown ready.
-          begin_trying m.theory m.telling m.stands m.lawful (written rs) c.args.budget c.args.logic.now c.args.made k c.literals-rule.result.now same (c.in-Some.ensures.picks good) good,
+          begin_trying m (written rs) c.args.budget c.args.logic.now c.args.made k c.literals-rule.result.now same (c.in-Some.ensures.picks good) good,
     )
 
 pub returns-then-trials-budget : goal.returns-then-trials-budget
@@ -56,7 +56,7 @@ returns-then-trials-budget g x c =
       capacity = c.loop-literal.invariant.2;
       bare = tt;
       walks = λ good shown ready.
-          over_trying m.theory m.telling m.stands m.lawful (written c.args.rules.now) c.args.budget c.args.logic.now c.args.made c.in-Some.k c.literals-rule.result.now c.loop-literal.logic
+          over_trying m (written c.args.rules.now) c.args.budget c.args.logic.now c.args.made c.in-Some.k c.literals-rule.result.now c.loop-literal.logic
           c.loop-literal.trials c.loop-literal.literal-index (c.loop-literal.invariant.4 good shown ready) _ c.in-Equal.e c.loop-literal-test.true c.in-Equal.is (vec_items c.loop-literal.choices) c.if-trials-budget.true;
     }
 
@@ -79,9 +79,9 @@ returns-in-Found g x c =
           let p = c.in-Some.ensures.picks good in
           let keep = c.takes.ensures.keeps y.kept.lawful in
           let taken = c.if-takes.ensures.tried y.kept.lawful in
-          let inner = ready_inner m.theory m.telling m.stands m.lawful (written rs) c.args.budget s c.args.made k ls z c.loop-literal.trials c.loop-literal.literal-index y _ c.in-Equal.e c.loop-literal-test.true c.in-Equal.is c.args.depth same p ready v keep taken in
-          let listed = choices_inner m.theory m.telling m.stands m.lawful (written rs) c.args.budget s c.args.made k ls z c.loop-literal.trials c.loop-literal.literal-index y _ c.in-Equal.e c.loop-literal-test.true c.in-Equal.is c.args.depth same p ready v keep taken (vec_items c.args.choices.now) (vec_items c.loop-literal.choices) (vec_items c.push_reserved.new.self) shown c.loop-literal.invariant.0 c.push_reserved.ensures.items in
-          done_trying m.theory m.telling m.stands m.lawful (written rs) c.args.budget s c.args.made k ls z c.loop-literal.trials c.loop-literal.literal-index y _ c.in-Equal.e c.loop-literal-test.true c.in-Equal.is c.args.depth same p ready v keep taken
+          let inner = ready_inner m (written rs) c.args.budget s c.args.made k ls z c.loop-literal.trials c.loop-literal.literal-index y _ c.in-Equal.e c.loop-literal-test.true c.in-Equal.is c.args.depth same p ready v keep taken in
+          let listed = choices_inner m (written rs) c.args.budget s c.args.made k ls z c.loop-literal.trials c.loop-literal.literal-index y _ c.in-Equal.e c.loop-literal-test.true c.in-Equal.is c.args.depth same p ready v keep taken (vec_items c.args.choices.now) (vec_items c.loop-literal.choices) (vec_items c.push_reserved.new.self) shown c.loop-literal.invariant.0 c.push_reserved.ensures.items in
+          done_trying m (written rs) c.args.budget s c.args.made k ls z c.loop-literal.trials c.loop-literal.literal-index y _ c.in-Equal.e c.loop-literal-test.true c.in-Equal.is c.args.depth same p ready v keep taken
           c.walk-word.result.0 c.walk-word.result.1 c.walk-word.new.logic (vec_items c.walk-word.new.choices) c.in-Found.is (omega (arith, c.if-trials-budget.false, c.loop-literal.invariant.3)) (c.walk-word.ensures.walks keep.lawful listed inner);
     }
 
@@ -95,7 +95,7 @@ loop-literal-preserved g x c =
     let i = c.loop-literal.literal-index in
     let z = c.loop-literal.logic in
     let same : get_or (written rs) k [] ≡ ls = read rs k c.index-rules-k.result c.in-Some.ensures.within ∙ ap literals_of (sym c.index-rules-k.is) ∙ sym c.literals-rule.ensures in
-    let P : g.row.L.Denot → ℕ → Type 0 = λ l n. Trying m.theory m.telling m.stands m.lawful (written rs) c.args.budget s c.args.made (equations (drop (i + 1) ls)) n l in
+    let P : g.row.L.Denot → ℕ → Type 0 = λ l n. Trying m (written rs) c.args.budget s c.args.made (equations (drop (i + 1) ls)) n l in
     elim c.match-literal.branch [
       | in-Equal+else-trials-budget+then-takes+in-None w ↦
           let v = w.takes.new.logic in
@@ -116,13 +116,13 @@ loop-literal-preserved g x c =
                 let p = c.in-Some.ensures.picks good in
                 let keep = w.takes.ensures.keeps y.kept.lawful in
                 let taken = w.if-takes.ensures.tried y.kept.lawful in
-                let inner = ready_inner m.theory m.telling m.stands m.lawful (written rs) c.args.budget s c.args.made k ls z c.loop-literal.trials i y _ w.in-Equal.e c.loop-literal-test.true w.in-Equal.is c.args.depth same p ready v keep taken in
-                let listed = choices_inner m.theory m.telling m.stands m.lawful (written rs) c.args.budget s c.args.made k ls z c.loop-literal.trials i y _ w.in-Equal.e c.loop-literal-test.true w.in-Equal.is c.args.depth same p ready v keep taken (vec_items c.args.choices.now) (vec_items c.loop-literal.choices) (vec_items w.push_reserved.new.self) shown c.loop-literal.invariant.0 w.push_reserved.ensures.items in
+                let inner = ready_inner m (written rs) c.args.budget s c.args.made k ls z c.loop-literal.trials i y _ w.in-Equal.e c.loop-literal-test.true w.in-Equal.is c.args.depth same p ready v keep taken in
+                let listed = choices_inner m (written rs) c.args.budget s c.args.made k ls z c.loop-literal.trials i y _ w.in-Equal.e c.loop-literal-test.true w.in-Equal.is c.args.depth same p ready v keep taken (vec_items c.args.choices.now) (vec_items c.loop-literal.choices) (vec_items w.push_reserved.new.self) shown c.loop-literal.invariant.0 w.push_reserved.ensures.items in
                 let walked = w.walk-word.ensures.walks keep.lawful listed inner in
-                let Q : Word → Type 0 = λ r. Walked m.theory m.telling m.stands m.lawful (written rs) c.args.budget v (c.loop-literal.trials + 1) r w.walk-word.result.1 f (vec_items w.walk-word.new.choices) in
+                let Q : Word → Type 0 = λ r. Walked m (written rs) c.args.budget v (c.loop-literal.trials + 1) r w.walk-word.result.1 f (vec_items w.walk-word.new.choices) in
                 let ended : Q W.None = subst Q w.in-None.is walked in
                 subst₂ P (sym w.logic-is) (sym w.trials-is)
-                (next_trying m.theory m.telling m.stands m.lawful (written rs) c.args.budget s c.args.made k ls z c.loop-literal.trials i y _ w.in-Equal.e c.loop-literal-test.true w.in-Equal.is c.args.depth same p ready v keep taken
+                (next_trying m (written rs) c.args.budget s c.args.made k ls z c.loop-literal.trials i y _ w.in-Equal.e c.loop-literal-test.true w.in-Equal.is c.args.depth same p ready v keep taken
                 w.walk-word.result.1 f (vec_items w.walk-word.new.choices) j c.len-kept.result
                 (omega (arith, w.if-trials-budget.false, c.loop-literal.invariant.3)) (long ∙ ap length shown) ended (w.back.ensures.keeps ended.kept.lawful) (w.back.ensures.oldest ended.kept.lawful)),
           )
@@ -135,7 +135,7 @@ loop-literal-preserved g x c =
             let y = c.loop-literal.invariant.4 good shown ready in
             let p = c.in-Some.ensures.picks good in
             subst₂ P (sym w.logic-is) (sym w.trials-is)
-            (clash_trying m.theory m.telling m.stands m.lawful (written rs) c.args.budget s c.args.made k ls z c.loop-literal.trials i y _ w.in-Equal.e c.loop-literal-test.true w.in-Equal.is c.args.depth same p ready w.takes.new.logic (omega (arith, w.if-trials-budget.false, c.loop-literal.invariant.3)) (w.takes.ensures.keeps y.kept.lawful) (w.if-takes.ensures.tried y.kept.lawful)),
+            (clash_trying m (written rs) c.args.budget s c.args.made k ls z c.loop-literal.trials i y _ w.in-Equal.e c.loop-literal-test.true w.in-Equal.is c.args.depth same p ready w.takes.new.logic (omega (arith, w.if-trials-budget.false, c.loop-literal.invariant.3)) (w.takes.ensures.keeps y.kept.lawful) (w.if-takes.ensures.tried y.kept.lawful)),
       )
       | in_default-literal w ↦ (
         ap vec_items w.choices-is ∙ c.loop-literal.invariant.0,
@@ -143,7 +143,7 @@ loop-literal-preserved g x c =
         ap vec_capacity w.choices-is ∙ c.loop-literal.invariant.2,
         omega (arith, w.trials-is, c.loop-literal.invariant.3),
         λ good shown ready. subst₂ P (sym w.logic-is) (sym w.trials-is)
-            (skip_trying m.theory m.telling m.stands m.lawful (written rs) c.args.budget s c.args.made k ls z c.loop-literal.trials i (c.loop-literal.invariant.4 good shown ready) _ w.in_default-literal.field-0 c.loop-literal-test.true w.in_default-literal.is),
+            (skip_trying m (written rs) c.args.budget s c.args.made k ls z c.loop-literal.trials i (c.loop-literal.invariant.4 good shown ready) _ w.in_default-literal.field-0 c.loop-literal-test.true w.in_default-literal.is),
       )
     ]
 
@@ -155,6 +155,6 @@ returns g x c =
       capacity = c.loop-literal.invariant.2;
       bare = c.loop-literal.invariant.0;
       walks = λ good shown ready.
-          end_trying m.theory m.telling m.stands m.lawful (written c.args.rules.now) c.args.budget c.args.logic.now c.args.made c.in-Some.k c.literals-rule.result.now c.loop-literal.logic
+          end_trying m (written c.args.rules.now) c.args.budget c.args.logic.now c.args.made c.in-Some.k c.literals-rule.result.now c.loop-literal.logic
           c.loop-literal.trials c.loop-literal.literal-index (c.loop-literal.invariant.4 good shown ready) (vec_items c.loop-literal.choices) c.loop-literal-test.false;
     }

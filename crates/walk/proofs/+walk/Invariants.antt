@@ -15,4 +15,4 @@ invariant-loop-literal g l =
     (vec_items l.choices ≡ vec_items l.initial.choices) × (vec_len l.choices ≡ vec_len l.initial.choices) × (vec_capacity l.choices ≡ vec_capacity l.initial.choices)
     × (l.trials ≤ l.budget)
     × (m.lawful s → vec_items l.initial.choices ≡ m.stands s → Ready (m.theory s) (written l.rules) (m.stands s) l.depth
-    → Trying m.theory m.telling m.stands m.lawful (written l.rules) l.budget s l.made (equations (drop l.literal-index l.rule)) l.trials l.logic)
+    → Trying m (written l.rules) l.budget s l.made (equations (drop l.literal-index l.rule)) l.trials l.logic)

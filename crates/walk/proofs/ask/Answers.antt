@@ -21,7 +21,7 @@ returns-in-Spent g c =
           let start = ready_start (m.theory s) R c.min-depth.result had (omega (arith, long)) (omega (arith, long, c.min-depth.ensures, c.capacity.ensures, c.clear.ensures.capacity)) in
           let P : List Equation → Type 0 = λ S. Ready (m.theory s) R S c.min-depth.result in
           let w = c.walk-word.ensures.walks good (c.clear.ensures.items ∙ sym bare) (subst P (sym bare) start) in
-          asked_spent m.theory m.telling m.stands m.lawful R c.args.budget s bare c.walk-word.result.1 z (vec_items c.walk-word.new.choices) c.walk-word.result.0 c.in-Spent.is w
+          asked_spent m R c.args.budget s bare c.walk-word.result.1 z (vec_items c.walk-word.new.choices) c.walk-word.result.0 c.in-Spent.is w
           j (vec_items c.clear-in-Spent.new.self) (c.back.ensures.keeps w.kept.lawful) (c.back.ensures.oldest w.kept.lawful) c.clear-in-Spent.ensures.items;
     }
 
@@ -38,6 +38,6 @@ returns-in_default g c =
           let start = ready_start (m.theory s) R c.min-depth.result had (omega (arith, long)) (omega (arith, long, c.min-depth.ensures, c.capacity.ensures, c.clear.ensures.capacity)) in
           let P : List Equation → Type 0 = λ S. Ready (m.theory s) R S c.min-depth.result in
           let w = c.walk-word.ensures.walks good (c.clear.ensures.items ∙ sym bare) (subst P (sym bare) start) in
-          asked_rest m.theory m.telling m.stands m.lawful R c.args.budget s bare c.walk-word.result.1 z (vec_items c.walk-word.new.choices) c.walk-word.result.0 c.in_default.not-Spent
+          asked_rest m R c.args.budget s bare c.walk-word.result.1 z (vec_items c.walk-word.new.choices) c.walk-word.result.0 c.in_default.not-Spent
           (vec_items c.clear.new.self) c.clear.ensures.items c.walk-word.ensures.bare w;
     }

@@ -1,30 +1,14 @@
-use Rattle.std.proofs.Common.{refl}
-use Rattle.std.proofs.lemmas.Bool.{false≢true}
-use Rattle.walk.proofs.Literals.{equal_step, equal_stop, denied_step, denied_stop, open_end}
+use Rattle.std.proofs.Common.{rules, tests}
+use Rattle.std.proofs.lemmas.Iterator.{YieldsList-from_slice, cases_from_all}
+use Rattle.walk.specs.Picks.{Leaves, Settles}
+use Rattle.walk.proofs.Literals.{judged}
 use Rattle.walk.proofs.is_open.Goals as goal
-use Rattle.walk.proofs.is_open.Goals.{in-Equal+else-forced, in-Denied+else-not-forced}
-
-pub returns-then-forced : goal.returns-then-forced
-returns-then-forced g c =
-    let t = g.L.Logic.theory c.args.logic.now in
-    let S = g.L.Logic.stands c.args.logic.now in
-    λ good. equal_stop t S c.args.rule.now c.loop-literal.literal-index _ c.in-Equal.e c.loop-literal-test.true (c.loop-literal.invariant good) c.in-Equal.is ((c.if-forced.ensures good).0 refl)
-
-pub returns-then-not-forced : goal.returns-then-not-forced
-returns-then-not-forced g c =
-    let t = g.L.Logic.theory c.args.logic.now in
-    let S = g.L.Logic.stands c.args.logic.now in
-    λ good. denied_stop t S c.args.rule.now c.loop-literal.literal-index _ c.in-Denied.e c.loop-literal-test.true (c.loop-literal.invariant good) c.in-Denied.is (λ f. false≢true ((c.if-not-forced.ensures good).1 f))
-
-pub loop-literal-preserved : goal.loop-literal-preserved
-loop-literal-preserved g c =
-    let t = g.L.Logic.theory c.args.logic.now in
-    let S = g.L.Logic.stands c.args.logic.now in
-    λ good. elim c.match-literal.branch [
-      | in-Equal+else-forced w ↦ equal_step t S c.args.rule.now c.loop-literal.literal-index _ w.in-Equal.e c.loop-literal-test.true (c.loop-literal.invariant good) w.in-Equal.is (λ f. false≢true ((w.if-forced.ensures good).1 f))
-      | in-Denied+else-not-forced w ↦ denied_step t S c.args.rule.now c.loop-literal.literal-index _ w.in-Denied.e c.loop-literal-test.true (c.loop-literal.invariant good) w.in-Denied.is ((w.if-not-forced.ensures good).0 refl)
-    ]
 
 pub returns : goal.returns
 returns g c =
-    λ good. open_end (g.L.Logic.theory c.args.logic.now) (g.L.Logic.stands c.args.logic.now) c.args.rule.now c.loop-literal.literal-index c.loop-literal-test.false (c.loop-literal.invariant good)
+    λ good.
+    let t = g.L.Logic.theory c.args.logic.now in
+    let S = g.L.Logic.stands c.args.logic.now in
+    let ls = c.args.rule.now in
+    judged t S ls c.all.result
+    (cases_from_all _ _ _ (Leaves t S) (Settles t S) c.all.ensures.ran (YieldsList-from_slice ls cc) (λ x q k. search (rules, tests)) (λ x q k. search (rules, tests)))

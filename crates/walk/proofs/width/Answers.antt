@@ -1,16 +1,14 @@
-use Rattle.std.proofs.Common.{arith}
-use Rattle.walk.proofs.Literals.{equal_width, denied_width, no_width}
+use Rattle.std.proofs.Common.{◌≡◌, length, ◌∙◌, rules, tests}
+use Rattle.std.specs.List.{filter}
+use Rattle.std.proofs.lemmas.Iterator.{YieldsList-from_slice}
+use Rattle.std.proofs.lemmas.Iterator.Consumers.{YieldsList-at, YieldsList-from_filter, count_from_yields_List}
+use Rattle.walk.proofs.Literals.{asserts, asserted_width}
 use Rattle.walk.proofs.width.Goals as goal
-use Rattle.walk.proofs.width.Goals.{in-Equal, in_default}
-
-pub loop-literal-preserved : goal.loop-literal-preserved
-loop-literal-preserved c =
-    elim c.match-literal.branch [
-      | in-Equal w ↦ let e = equal_width c.args.rule.now c.loop-literal.literal-index _ w.in-Equal.field-0 c.loop-literal-test.true w.in-Equal.is in
-          let i = c.loop-literal.invariant.1 in (omega (arith, w.n-is), omega (arith, w.n-is, e, i))
-      | in_default w ↦ let e = denied_width c.args.rule.now c.loop-literal.literal-index _ w.in_default.field-0 c.loop-literal-test.true w.in_default.is in
-          let i = c.loop-literal.invariant.1 in (omega (arith, w.n-is), omega (arith, w.n-is, e, i))
-    ]
 
 pub returns : goal.returns
-returns c = omega (arith, no_width c.args.rule.now c.loop-literal.literal-index c.loop-literal-test.false, c.loop-literal.invariant.1)
+returns c =
+    let ls = c.args.rule.now in
+    let counted : c.count.result ≡ length (filter asserts ls)
+    = count_from_yields_List c.filter.result c.count.result c.count.ensures.ran
+    (YieldsList-from_filter _ asserts (YieldsList-at c.filter.ensures.source (YieldsList-from_slice ls cc)) c.filter.ensures.closure (λ x r q k. search (rules, tests))) in
+    counted ∙ asserted_width ls

@@ -12,5 +12,5 @@ returns g c =
     let y = c.args.second in
     let z = c.back.new.self in
     λ good fine. pair_begun (pick (a.theory x) (b.theory y)) (by_side a.theory b.theory z) (pick (a.telling x) (b.telling y)) (by_side a.telling b.telling z)
-    (by_side a.lawful b.lawful z) (pick (a.stands x) (b.stands y)) (by_side a.stands b.stands z) (vec_items c.in_ok-turns.turns.standing)
-    c.in_ok-turns.ensures (c.back.ensures (each_side _ good fine))
+    (by_side a.lawful b.lawful z) (pick (a.stands x) (b.stands y)) (by_side a.stands b.stands z) (vec_items c.in_ok-standing.standing.vec)
+    c.in_ok-standing.ensures (c.back.ensures (each_side _ good fine))

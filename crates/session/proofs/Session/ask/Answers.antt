@@ -18,25 +18,25 @@ returns g c =
     let s = c.args.self.now in
     let y = c.put_away.new.self in
     let z = c.ask-word.new.logic in
-    let R = written (vec_items s.rules) in
+    let R = written (vec_items s.rules.vec) in
     let A = written c.as_slice.result.now in
     let D = vec_items c.ask-word.new.choices in
-    let kept : written (vec_items y.rules) ≡ R = ap (λ v. written (vec_items v)) c.put_away.ensures.rules in
-    let read : A ≡ R = ap written c.as_slice.ensures.value ∙ kept in
-    let few : length c.as_slice.result.now ≤ 256 = omega (arith, c.as_slice.ensures.len, y.few.0) in
+    let kept : written (vec_items y.rules.vec) ≡ R = ap (λ v. written (vec_items v.vec)) c.put_away.ensures.rules in
+    let read : A ≡ R = ap written c.as_slice.ensures ∙ kept in
+    let few : length c.as_slice.result.now ≤ 256 = omega (arith, ap length c.as_slice.ensures, y.rules.vec.ok.0, y.rules.few) in
     λ cs rs l.
     let away = c.put_away.ensures.keeps l.lawful in
     let had : HadAll (m.theory y.logic) A = subst (HadAll (m.theory y.logic)) (sym read) (rules_moved (m.theory s.logic) (m.theory y.logic) (same_sym away.theory) R l.had) in
-    let asked = c.ask-word.ensures.asks away.lawful (c.put_away.ensures.bare l.lawful) had few y.room.2 in
+    let asked = c.ask-word.ensures.asks away.lawful (c.put_away.ensures.bare l.lawful) had few y.room in
     let walked : Walk (m.theory y.logic) R c.args.budget [] 0 c.ask-word.result.1 (end_of c.ask-word.result.0 D) =
     subst (λ (Q : List (List Literal)). Walk (m.theory y.logic) Q c.args.budget [] 0 c.ask-word.result.1 (end_of c.ask-word.result.0 D)) read asked.walk in
     let a = c.ask-word.result.0 in (
       kept_trans away asked.kept,
-      subst₂ (λ (Q : List (List Literal)) (b : Bool). Led (m.theory z) (m.lawful z) (m.stands z) Q (vec_items y.scopes) D b (cs ++ (ask c.args.budget ∷ [])) (rs ++ (answered a c.ask-word.result.1 ∷ [])))
+      subst₂ (λ (Q : List (List Literal)) (b : Bool). Led (m.theory z) (m.lawful z) (m.stands z) Q (vec_items y.scopes.vec) D b (cs ++ (ask c.args.budget ∷ [])) (rs ++ (answered a c.ask-word.result.1 ∷ [])))
           (sym kept) (sym c.is_found-self.ensures)
           (subst (λ (ks : List ℕ). Led (m.theory z) (m.lawful z) (m.stands z) R ks D (is_found a) (cs ++ (ask c.args.budget ∷ [])) (rs ++ (answered a c.ask-word.result.1 ∷ [])))
-          (sym (ap vec_items c.put_away.ensures.scopes))
-          (led_ask (m.theory s.logic) (m.lawful s.logic) (m.stands s.logic) R (vec_items s.scopes) (vec_items s.choices) s.shown cs rs l
+          (sym (ap (λ v. vec_items v.vec) c.put_away.ensures.scopes))
+          (led_ask l
           (m.theory y.logic) (m.theory z) (m.lawful z) (m.stands z) D away.theory asked.kept.theory asked.kept.lawful asked.shown c.args.budget c.ask-word.result.1
           a asked.bare walked (g.met.L.Logic.freest z asked.kept.lawful))),
     )

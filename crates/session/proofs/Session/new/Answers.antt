@@ -9,7 +9,7 @@ returns g c =
     record {
       keeps = λ good. c.back.ensures.keeps good;
       begins = λ good.
-          led_begin (m.theory z) (m.lawful z) (m.stands z) (vec_items c.in_ok-rules.rules) (vec_items c.in_ok-scopes.scopes) (vec_items c.in_ok-choices.choices)
+          led_begin (m.theory z) (m.lawful z) (m.stands z) (vec_items c.in_ok-rules.rules.vec) (vec_items c.in_ok-scopes.scopes.vec) (vec_items c.in_ok-choices.choices)
           (c.back.ensures.keeps good).lawful (c.back.ensures.oldest good)
-          c.in_ok-rules.ensures.items c.in_ok-scopes.ensures.items c.in_ok-choices.ensures.items;
+          c.in_ok-rules.ensures c.in_ok-scopes.ensures c.in_ok-choices.ensures.items;
     }

@@ -6,5 +6,5 @@ abbrev pub invariant-loop-call : goal.invariant-loop-call
 invariant-loop-call g l =
     let m = g.L.Logic in
     (vec_len l.replies ≡ l.call-index) × (length l.calls ≤ vec_capacity l.replies)
-    × (LedBy m.theory m.telling m.stands m.lawful l.initial.session [] []
-    → Playing m.theory m.telling m.stands m.lawful l.initial.session (take l.call-index l.calls) l.session (vec_items l.replies))
+    × (LedBy m l.initial.session [] []
+    → Playing m l.initial.session (take l.call-index l.calls) l.session (vec_items l.replies))
