@@ -32,7 +32,7 @@ rows_in h = rows_of h.sheet
 
 -- The standing equations, oldest first.
 abbrev pub stands_in : History → List Equation
-stands_in h = vec_items h.standing
+stands_in h = vec_items h.standing.vec
 
 -- The theory of trees on the sheet, and what it tells.
 abbrev pub theory_in : History → Theory

@@ -1,14 +1,15 @@
 // Letting equations stand, and taking them back.
 
-ghost use Rattle.std.specs.Prelude.{◌≡◌, ◌<◌, ◌≤◌, true, OnOk, OnErr, [], ◌∷◌, ◌++◌, length, take, IfOk, vec_capacity};
+ghost use Rattle.std.specs.Prelude.{◌≡◌, ◌<◌, ◌≤◌, true, OnOk, OnErr, [], ◌∷◌, ◌++◌, length, take, IfOk};
 ghost use Rattle.logic.specs.Theories.{Clash as Clashes};
 ghost use Rattle.sheet.specs.Models.{rows_of};
 ghost use Rattle.trees.specs.Terms.{rows};
 ghost use Rattle.trees.specs.Layers.{Ready};
 ghost use Rattle.trees.specs.Models.{Founded, stands_in, theory_in, Prepared};
 
+use bounded::Bounded;
 use crate::clash::Clash;
-use crate::history::History;
+use crate::history::{History, Standing};
 use crate::layer::Layer;
 use crate::settling::next_layer;
 use crate::term_list::Terms;
@@ -23,7 +24,7 @@ impl History {
     pub(crate) fn new(heap: Global, sheet: OpenSheet) -> Result<History, AllocError>
         ensures { IfOk result (λ h. (h.sheet ≡ sheet) × (stands_in h ≡ [])) }
     {
-        let standing = Vec::with_capacity(heap, ROOM)?;
+        let standing = Bounded::new(heap)?;
         let layers = layers(heap, Terms::of(&sheet))?;
         let visits = visits(heap, &sheet)?;
         Ok(History::first(sheet, standing, layers, visits))
@@ -32,12 +33,11 @@ impl History {
     // The same, in memory that is at hand.
     fn first(
         sheet: OpenSheet,
-        standing: Vec<Equation>,
+        standing: Standing,
         layers: Vec<Layer>,
         visits: Visits,
     ) -> History
-        requires empty { standing.items ≡ [] }
-        requires room { 256 ≤ vec_capacity standing }
+        requires empty { standing.vec.items ≡ [] }
         requires founded { Founded (rows_of sheet) layers.items }
         requires ready { Ready (rows_of sheet) visits }
         ensures sheet { result.sheet ≡ sheet }
@@ -90,7 +90,7 @@ impl History {
         ensures sheet { self.new.sheet ≡ self.old.sheet }
         ensures newest { stands_in self.new ≡ stands_in self.old ++ (e ∷ []) }
     {
-        self.standing.push_reserved(e);
+        self.standing.push(e).unwrap();
     }
 
     // Keeps the oldest n equations, or all where fewer stand.

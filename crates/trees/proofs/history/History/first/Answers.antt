@@ -11,12 +11,10 @@ invariant_of-result c =
     let founded = c.requires.founded in
     let rs = rows_of c.args.sheet in
     record {
-      room = c.requires.room;
-      few = omega (arith, c.args.standing.ok.0, ap length c.requires.empty);
       full = omega (arith, founded.full, c.args.layers.ok.0);
       wide = ∣ (λ k h. ap length (founded.tables k h) ∙ length-map-range_with_len (λ (a : ℕ). a) 0 (length rs)) ∣₁;
       ready = ∣ c.requires.ready ∣₁;
       settled = ∥∥₁_map c.args.sheet.table.sheet
-          (λ sheet. layers_first rs (vec_items c.args.standing) (vec_items c.args.layers) c.requires.empty
+          (λ sheet. layers_first rs (vec_items c.args.standing.vec) (vec_items c.args.layers) c.requires.empty
           (subst₂ (λ (xs ys : List ℕ). Settled rs [] xs ys) (sym (founded.tables 0 (omega arith))) (sym (founded.heads 0 (omega arith))) (alone_settled (arities_of c.args.sheet) rs sheet)));
     }

@@ -22,7 +22,7 @@ next_layer-requires c =
     let read = c.of.ensures in
     let same : c.deref_mut.result.now ≡ ls = c.deref_mut.ensures.value in
     let sides = between (arities_in self) (rows_in self) c.args.e c.requires.had in
-    let last : length (stands_in self) ≡ c.len.result = omega (arith, self.standing.ok.0, c.len.ensures) in
+    let last : length (stands_in self) ≡ c.len.result = omega (arith, self.standing.vec.ok.0, c.len.ensures) in
     let long = many self.sheet ts read in
     let wide : length (table_at (c.len.result + 1) ls) ≡ length (rows_in self) =
     ∥∥₁_elim self.wide (hedberg ℕ_discrete (length (table_at (c.len.result + 1) ls)) (length (rows_in self))) (λ w. w (c.len.result + 1) (omega (arith, c.requires.few))) in
@@ -44,14 +44,12 @@ invariant_of-self c =
     let r = c.next_layer.result in
     let ts = c.of.result.list.now in
     let read = c.of.ensures in
-    let last : c.len.result ≡ length es = omega (arith, self.standing.ok.0, c.len.ensures) in
+    let last : c.len.result ≡ length es = omega (arith, self.standing.vec.ok.0, c.len.ensures) in
     let room : length es + 1 < length ls = omega (arith, c.requires.few, self.full, self.layers.ok.0) in
     let written : us ≡ take self.layers.len (us ++ drop (length us) ls) = sym (take_at us (drop (length us) ls) self.layers.len (c.next_layer.auto.layers ∙ c.deref_mut.ensures.len)) in
     let next : Nexts (rows_in self) (length es) c.args.e ls us r
     = subst₃ (λ (rs : List Row) (k : ℕ) (ms : List Layer). Nexts rs k c.args.e ms us r) read.rows last c.deref_mut.ensures.value c.next_layer.ensures.next in
     record {
-      room = self.room;
-      few = self.few;
       full = self.full;
       wide = subst (λ (ms : List Layer). ∥ Wide (rows_in self) ms 257 ∥₁) written (wide_still self.sheet es c.args.e ls us r room next self.settled 257 self.wide);
       ready = ∣ ready_sheet self.sheet ts read c.next_layer.new.visits c.next_layer.ensures.ready ∣₁;
@@ -67,7 +65,7 @@ returns c =
     let r = c.next_layer.result in
     let ts = c.of.result.list.now in
     let read = c.of.ensures in
-    let last : c.len.result ≡ length es = omega (arith, self.standing.ok.0, c.len.ensures) in
+    let last : c.len.result ≡ length es = omega (arith, self.standing.vec.ok.0, c.len.ensures) in
     let room : length es + 1 < length ls = omega (arith, c.requires.few, self.full, self.layers.ok.0) in
     let written : us ≡ take self.layers.len (us ++ drop (length us) ls) = sym (take_at us (drop (length us) ls) self.layers.len (c.next_layer.auto.layers ∙ c.deref_mut.ensures.len)) in
     let next : Nexts (rows_in self) (length es) c.args.e ls us r

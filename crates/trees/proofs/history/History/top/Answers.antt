@@ -9,8 +9,8 @@ returns c =
     let h = c.args.self.now in
     let ls = h.layers.items in
     let k = c.len.result in
-    let last : k ≡ length (stands_in h) = omega (arith, c.len.ensures, h.standing.ok.0) in
+    let last : k ≡ length (stands_in h) = omega (arith, c.len.ensures.count) in
     record {
-      table = sym (table_read ls k c.index.result.now (omega (arith, h.few, h.full, h.layers.ok.0)) c.index.ensures) ∙ ap (λ (i : ℕ). table_at i ls) last;
-      heads = sym (heads_read ls k c.index.result.now (omega (arith, h.few, h.full, h.layers.ok.0)) c.index.ensures) ∙ ap (λ (i : ℕ). heads_at i ls) last;
+      table = sym (table_read ls k c.index.result.now (omega (arith, c.len.ensures.few, h.full, h.layers.ok.0)) c.index.ensures) ∙ ap (λ (i : ℕ). table_at i ls) last;
+      heads = sym (heads_read ls k c.index.result.now (omega (arith, c.len.ensures.few, h.full, h.layers.ok.0)) c.index.ensures) ∙ ap (λ (i : ℕ). heads_at i ls) last;
     }

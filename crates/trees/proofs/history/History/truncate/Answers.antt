@@ -10,11 +10,9 @@ pub invariant_of-self : goal.invariant_of-self
 invariant_of-self c =
     let self = c.args.self.now in
     record {
-      room = omega (arith, self.room, c.truncate.ensures.capacity);
-      few = omega (arith, self.few, c.truncate.ensures.len);
       full = self.full;
       wide = self.wide;
       ready = self.ready;
-      settled = subst (λ (fs : List Equation). ∥ Layered (rows_in self) fs self.layers.items ∥₁) (sym c.truncate.ensures.items)
+      settled = subst (λ (fs : List Equation). ∥ Layered (rows_in self) fs self.layers.items ∥₁) (sym c.truncate.ensures)
           (∥∥₁_map self.settled (layers_back (rows_in self) (stands_in self) self.layers.items c.args.n));
     }
