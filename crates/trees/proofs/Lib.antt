@@ -8,3 +8,4 @@ pub mod Preparing
 pub mod Tells
 pub mod Counted
 pub mod Climbing
+pub mod Uniting

@@ -1,13 +1,13 @@
 // Bringing two terms together: unification on classes of terms. A class is a tree of parents, with the term that stands for
 // it on top; `heads` has a compound term of each class at that term.
 
-ghost use Rattle.std.specs.Prelude.{◌≡◌, ℕ, ◌<◌, ◌≤◌, min, max, length, is_ok, OnOk, OnErr, vec_len, slice_index, slice_set};
+ghost use Rattle.std.specs.Prelude.{◌≡◌, ℕ, ◌<◌, ◌≤◌, min, max, length, OnOk, OnErr, vec_len, slice_index, slice_set};
 ghost use Rattle.unify.specs.Parents.{Parents, Rooted};
 ghost use Rattle.unify.specs.Merging.{Agree};
 ghost use Rattle.unify.specs.Settling.{Tabled, Unified, Refuted};
 ghost use Rattle.classes.specs.Classes.{class};
 ghost use Rattle.trees.specs.Terms.{rows, arguments_of};
-ghost use Rattle.trees.specs.Merges.{Found, Merges};
+ghost use Rattle.trees.specs.Merges.{Finds, Unites};
 
 use crate::clash::Clash;
 use crate::layer::Layer;
@@ -32,7 +32,7 @@ impl Layer {
     fn merge_terms(&mut self, terms: Terms, a: u16, b: u16) -> Result<(), Clash>
         requires parents { Parents (length terms.list.now) self.old.table.items }
         requires sides { (a < length terms.list.now) × (b < length terms.list.now) }
-        ensures { Merges terms.entry.list.now self.old.table.items self.old.heads.items self.new.table.items self.new.heads.items (λ f. f a ≡ f b) (λ v. v a ≡ v b) (is_ok result) }
+        ensures { Unites terms.entry.list.now self.old self.new (λ f. f a ≡ f b) (λ v. v a ≡ v b) result }
     {
         let x = self.find(a);
         let y = self.find(b);
@@ -58,7 +58,7 @@ impl Layer {
         requires sides { (a < length terms.list.now) × (b < length terms.list.now) }
         requires same { length (arguments_of terms.list.now b) ≡ length (arguments_of terms.list.now a) }
         requires place { place ≤ length (arguments_of terms.list.now a) }
-        ensures { Merges terms.entry.list.now self.old.table.items self.old.heads.items self.new.table.items self.new.heads.items (Agree (arguments_of terms.entry.list.now a) (arguments_of terms.entry.list.now b) place) (Agree (arguments_of terms.entry.list.now a) (arguments_of terms.entry.list.now b) place) (is_ok result) }
+        ensures { Unites terms.entry.list.now self.old self.new (Agree (arguments_of terms.entry.list.now a) (arguments_of terms.entry.list.now b) place) (Agree (arguments_of terms.entry.list.now a) (arguments_of terms.entry.list.now b) place) result }
     {
         if place == terms.arity(a) {
             return Ok(());
@@ -73,8 +73,7 @@ impl Layer {
     fn find(&mut self, term: u16) -> u16
         requires parents { Parents (length self.old.table.items) self.old.table.items }
         requires term { term < length self.old.table.items }
-        ensures found { Found (length self.old.table.items) self.old.table.items self.new.table.items term result }
-        ensures heads { self.new.heads.items ≡ self.old.heads.items }
+        ensures { Finds self.old self.new term result }
     {
         let mut at = term;
         while self.table[at as usize] != at {

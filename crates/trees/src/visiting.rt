@@ -2,16 +2,16 @@
 // only names, and otherwise that of its head's symbol over the numbers of the arguments' classes, as a sheet gives it.
 // So two classes get one number exactly where all their compound terms must be equal.
 
-ghost use Rattle.std.specs.Prelude.{◌≡◌, ℕ, ◌<◌, ◌≤◌, is_ok, OnOk, OnErr, List, [], map, length, vec_len, slice_index};
+ghost use Rattle.std.specs.Prelude.{◌≡◌, ℕ, ◌<◌, ◌≤◌, OnOk, OnErr, List, [], map, length, vec_len, slice_index};
 ghost use Rattle.terms.specs.Sheets.{Row, row, Writable, Sheet};
 ghost use Rattle.classes.specs.Classes.{class as classed, Lowest};
 ghost use Rattle.unify.specs.Merging.{Tops};
-ghost use Rattle.unify.specs.Visits.{mark, number as numbered, Numbered, Visits as Answered, AllNumbered, Inside, Unfit};
+ghost use Rattle.unify.specs.Visits.{mark, number as numbered, Numbered, AllNumbered, Inside, Unfit};
 ghost use Rattle.unify.specs.Settling.{number_of, AllVisited};
 ghost use Rattle.unify.specs.Firsts.{noted};
 ghost use Rattle.sheet.specs.Models.{arities_of, rows_of};
 ghost use Rattle.trees.specs.Terms.{rows, arguments_of};
-ghost use Rattle.trees.specs.Places.{Placed, Visiting, Writing};
+ghost use Rattle.trees.specs.Places.{Visitable, Headed, Writes, Goes};
 
 use crate::clash::Clash;
 use crate::layer::Layer;
@@ -44,12 +44,12 @@ impl Visits {
     // Visits a class, and before it those of its head's arguments. A clash where it stands inside itself, so that no trees fit.
     #[cycle(visit_visit_arguments)]
     fn visit(&mut self, terms: Terms, layer: &Layer, class: u16) -> Result<(), Clash>
-        requires visiting { Visiting terms.list.now layer.now.table.items layer.now.heads.items self.old.marks.items (arities_of self.old.order) (rows_of self.old.order) }
+        requires visiting { Visitable terms.list.now layer.now self.old }
         requires class { (class < length terms.list.now) × (classed layer.now.table.items class ≡ class) }
         requires inside { Inside (rows terms.list.now) (classed layer.now.table.items) self.old.marks.items class 1 }
         ensures arities { arities_of self.new.order ≡ arities_of self.old.order }
         ensures lowest { self.new.lowest ≡ self.old.lowest }
-        ensures visits { Answered (rows terms.entry.list.now) (classed layer.now.table.items) layer.now.heads.items self.old.marks.items (rows_of self.old.order) self.new.marks.items (rows_of self.new.order) (Numbered self.new.marks.items class) (is_ok result) }
+        ensures visits { Goes terms.entry.list.now layer.now self.old self.new (Numbered self.new.marks.items class) result }
     {
         match self.marks[class as usize] {
             Mark::Done(_) => Ok(()),
@@ -77,13 +77,13 @@ impl Visits {
         head: u16,
         place: usize,
     ) -> Result<(), Clash>
-        requires visiting { Visiting terms.list.now layer.now.table.items layer.now.heads.items self.old.marks.items (arities_of self.old.order) (rows_of self.old.order) }
+        requires visiting { Visitable terms.list.now layer.now self.old }
         requires head { head < length terms.list.now }
         requires place { place ≤ length (arguments_of terms.list.now head) }
         requires inside { Inside (rows terms.list.now) (classed layer.now.table.items) self.old.marks.items head 0 }
         ensures arities { arities_of self.new.order ≡ arities_of self.old.order }
         ensures lowest { self.new.lowest ≡ self.old.lowest }
-        ensures visits { Answered (rows terms.entry.list.now) (classed layer.now.table.items) layer.now.heads.items self.old.marks.items (rows_of self.old.order) self.new.marks.items (rows_of self.new.order) (AllNumbered (classed layer.now.table.items) self.new.marks.items (arguments_of terms.entry.list.now head) place) (is_ok result) }
+        ensures visits { Goes terms.entry.list.now layer.now self.old self.new (AllNumbered (classed layer.now.table.items) self.new.marks.items (arguments_of terms.entry.list.now head) place) result }
     {
         if place == terms.arity(head) {
             return Ok(());
@@ -99,7 +99,7 @@ impl Visits {
         requires room { length (rows_of self.old.order) < 1024 }
         ensures arities { arities_of self.new.order ≡ arities_of self.old.order }
         ensures lowest { self.new.lowest ≡ self.old.lowest }
-        ensures placed { Placed self.old.marks.items (rows_of self.old.order) self.new.marks.items (rows_of self.new.order) class Row.name }
+        ensures placed { Writes self.old self.new class Row.name }
     {
         if let Ok(number) = self.order.name() {
             self.marks[class as usize] = Mark::Done(number);
@@ -108,10 +108,10 @@ impl Visits {
 
     // Gives a class the number of its head's symbol over the numbers of the classes of the head's arguments.
     fn write_head(&mut self, terms: Terms, layer: &Layer, class: u16, head: u16)
-        requires writing { Writing terms.list.now layer.now.table.items self.old.marks.items (arities_of self.old.order) (rows_of self.old.order) class head }
+        requires writing { Headed terms.list.now layer.now self.old class head }
         ensures arities { arities_of self.new.order ≡ arities_of self.old.order }
         ensures lowest { self.new.lowest ≡ self.old.lowest }
-        ensures placed { (s : ℕ) (xs : List ℕ) → row (rows terms.entry.list.now) head ≡ Row.over s xs → Placed self.old.marks.items (rows_of self.old.order) self.new.marks.items (rows_of self.new.order) class (Row.over s (map (number_of layer.now.table.items self.old.marks.items) xs)) }
+        ensures placed { (s : ℕ) (xs : List ℕ) → row (rows terms.entry.list.now) head ≡ Row.over s xs → Writes self.old self.new class (Row.over s (map (number_of layer.now.table.items self.old.marks.items) xs)) }
     {
         if let Some(compound) = terms.compound(head) {
             let numbers = self.numbers(layer, &compound);
@@ -126,7 +126,7 @@ impl Visits {
         requires writable { Writable (arities_of self.old.order) (length (rows_of self.old.order)) symbol numbers.now }
         ensures arities { arities_of self.new.order ≡ arities_of self.old.order }
         ensures lowest { self.new.lowest ≡ self.old.lowest }
-        ensures placed { Placed self.old.marks.items (rows_of self.old.order) self.new.marks.items (rows_of self.new.order) class (Row.over symbol numbers.now) }
+        ensures placed { Writes self.old self.new class (Row.over symbol numbers.now) }
     {
         if let Ok(number) = self.order.term(symbol, numbers) {
             self.marks[class as usize] = Mark::Done(number);

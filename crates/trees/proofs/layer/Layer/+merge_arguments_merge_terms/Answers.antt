@@ -7,8 +7,8 @@ use Rattle.unify.specs.Merging.{Agree, alike}
 use Rattle.unify.proofs.Lists.{alike_length}
 use Rattle.trees.specs.Terms.{rows, arguments_of}
 use Rattle.trees.specs.Merges.{Merges}
-use Rattle.trees.proofs.Ways.{merge_along, merge_same, merge_parents, merge_fewer, merge_left, merge_right, merge_unlike, merge_alike, merge_none, merge_clash, merge_next}
-use Rattle.trees.proofs.Layering.{head_long}
+use Rattle.trees.proofs.Ways.{merge_none, merge_clash, merge_next}
+use Rattle.trees.proofs.Uniting.{unite_same, unite_parents, unite_fewer, unite_left, unite_right, unite_unlike, unite_alike}
 use Rattle.trees.proofs.layer.Layer.+merge_arguments_merge_terms.Goals as goal
 use Rattle.trees.proofs.layer.Layer.+merge_arguments_merge_terms.Goals.{merge_terms-then-first-len-via-then-first-len, merge_terms-then-first-len-via-else-first-len+then-second-len}
 
@@ -37,114 +37,52 @@ merge_arguments-returns t c =
 
 pub merge_terms-returns-then-x-y : goal.merge_terms-returns-then-x-y
 merge_terms-returns-then-x-y t c =
-    let self = c.args.self.now in
-    let ts = c.args.terms.list.now in
-    let terms = c.args.terms.orderly in
-    let ps = self.table.items in
-    let os = c.find-x.new.self.table.items in
-    let qs = c.find-y.new.self.table.items in
-    let hs = c.find-y.new.self.heads.items in
-    let x = c.find-x.result in
-    let y = c.find-y.result in
-    let kept : hs ≡ self.heads.items = c.find-y.ensures.heads ∙ c.find-x.ensures.heads in
-    let long : length hs ≡ length ts = ap length kept ∙ head_long self ∙ c.requires.parents.long in
-    merge_along ts ps hs self.heads.items _ _ _ _ (λ f. f c.args.a ≡ f c.args.b) (λ v. v c.args.a ≡ v c.args.b) true kept refl refl
-    (merge_same ts terms ps hs os qs c.args.a c.args.b x y c.requires.parents long c.requires.sides.0 c.requires.sides.1 c.find-x.ensures.found c.find-y.ensures.found c.if-x-y.true)
+    unite_same c.args.terms.list.now c.args.terms.orderly c.args.self.now c.find-x.new.self c.find-y.new.self c.args.a c.args.b c.find-x.result c.find-y.result
+    c.requires.parents c.requires.sides.0 c.requires.sides.1 c.find-x.ensures c.find-y.ensures c.if-x-y.true
 
 pub merge_terms-returns-then-first-len : goal.merge_terms-returns-then-first-len
 merge_terms-returns-then-first-len t c =
-    let self = c.args.self.now in
-    let ts = c.args.terms.list.now in
-    let terms = c.args.terms.orderly in
-    let ps = self.table.items in
-    let os = c.find-x.new.self.table.items in
-    let qs = c.find-y.new.self.table.items in
-    let hs = c.find-y.new.self.heads.items in
-    let x = c.find-x.result in
-    let y = c.find-y.result in
-    let kept : hs ≡ self.heads.items = c.find-y.ensures.heads ∙ c.find-x.ensures.heads in
-    let long : length hs ≡ length ts = ap length kept ∙ head_long self ∙ c.requires.parents.long in
-    let first : c.index-first.result.now ≡ get_or hs x 0 = get_or_read hs _ _ (omega (arith, c.find-x.ensures.found.climbs.low)) c.index-first.ensures 0 in
-    let second : c.index-second.result.now ≡ get_or hs y 0 = get_or_read hs _ _ (omega (arith, c.find-y.ensures.found.climbs.low)) c.index-second.ensures 0 in
-    merge_along ts ps hs self.heads.items _ _ _ _ (λ f. f c.args.a ≡ f c.args.b) (λ v. v c.args.a ≡ v c.args.b) true kept c.join.ensures.parents c.join.ensures.heads
-    (elim c.then-first-len.branch [
-      | merge_terms-then-first-len-via-then-first-len w ↦ merge_left ts terms ps hs os qs c.args.a c.args.b x y c.requires.parents long c.requires.sides.0 c.requires.sides.1 c.find-x.ensures.found c.find-y.ensures.found c.if-x-y.false (omega (arith, first, w.if-first-len.true, c.len.ensures.count))
+    elim c.then-first-len.branch [
+      | merge_terms-then-first-len-via-then-first-len w ↦
+          unite_left c.args.terms.list.now c.args.terms.orderly c.args.self.now c.find-x.new.self c.find-y.new.self c.args.a c.args.b c.find-x.result c.find-y.result
+          c.requires.parents c.requires.sides.0 c.requires.sides.1 c.find-x.ensures c.find-y.ensures c.if-x-y.false c.join.new.self c.join.ensures.parents c.join.ensures.heads
+          c.index-first.result.now c.index-second.result.now c.index-first.ensures c.index-second.ensures
+          (omega (arith, c.len.ensures.count, w.if-first-len.true))
       | merge_terms-then-first-len-via-else-first-len+then-second-len w ↦
-          merge_right ts terms ps hs os qs c.args.a c.args.b x y c.requires.parents long c.requires.sides.0 c.requires.sides.1 c.find-x.ensures.found c.find-y.ensures.found c.if-x-y.false (omega (arith, second, w.if-second-len.true, w.len-else-first-len.ensures.count))
-    ])
+          unite_right c.args.terms.list.now c.args.terms.orderly c.args.self.now c.find-x.new.self c.find-y.new.self c.args.a c.args.b c.find-x.result c.find-y.result
+          c.requires.parents c.requires.sides.0 c.requires.sides.1 c.find-x.ensures c.find-y.ensures c.if-x-y.false c.join.new.self c.join.ensures.parents c.join.ensures.heads
+          c.index-first.result.now c.index-second.result.now c.index-first.ensures c.index-second.ensures
+          (omega (arith, w.len-else-first-len.ensures.count, w.if-second-len.true))
+    ]
 
 pub merge_terms-returns-then-not-alike : goal.merge_terms-returns-then-not-alike
 merge_terms-returns-then-not-alike t c =
-    let self = c.args.self.now in
-    let ts = c.args.terms.list.now in
-    let terms = c.args.terms.orderly in
-    let ps = self.table.items in
-    let os = c.find-x.new.self.table.items in
-    let qs = c.find-y.new.self.table.items in
-    let hs = c.find-y.new.self.heads.items in
-    let x = c.find-x.result in
-    let y = c.find-y.result in
-    let kept : hs ≡ self.heads.items = c.find-y.ensures.heads ∙ c.find-x.ensures.heads in
-    let long : length hs ≡ length ts = ap length kept ∙ head_long self ∙ c.requires.parents.long in
-    let first : c.index-first.result.now ≡ get_or hs x 0 = get_or_read hs _ _ (omega (arith, c.find-x.ensures.found.climbs.low)) c.index-first.ensures 0 in
-    let second : c.index-second.result.now ≡ get_or hs y 0 = get_or_read hs _ _ (omega (arith, c.find-y.ensures.found.climbs.low)) c.index-second.ensures 0 in
-    merge_along ts ps hs self.heads.items _ _ _ _ (λ f. f c.args.a ≡ f c.args.b) (λ v. v c.args.a ≡ v c.args.b) false kept c.join.ensures.parents c.join.ensures.heads
-    (merge_unlike ts terms ps hs os qs c.args.a c.args.b x y c.requires.parents long c.requires.sides.0 c.requires.sides.1 c.find-x.ensures.found c.find-y.ensures.found c.if-x-y.false
-    (omega (arith, c.len.ensures.count)) (omega (arith, c.len-else-first-len.ensures.count))
-    (ap₂ (λ (p q : ℕ). alike (row (rows ts) p) (row (rows ts) q)) (sym first) (sym second) ∙ sym c.alike.ensures ∙ c.if-not-alike.true))
+    unite_unlike c.args.terms.list.now c.args.terms.orderly c.args.self.now c.find-x.new.self c.find-y.new.self c.args.a c.args.b c.find-x.result c.find-y.result
+    c.requires.parents c.requires.sides.0 c.requires.sides.1 c.find-x.ensures c.find-y.ensures c.if-x-y.false c.join.new.self c.join.ensures.parents c.join.ensures.heads
+    c.index-first.result.now c.index-second.result.now c.index-first.ensures c.index-second.ensures
+    (omega (arith, c.len.ensures.count)) (omega (arith, c.len-else-first-len.ensures.count)) (sym c.alike.ensures ∙ c.if-not-alike.true)
 
 pub merge_terms-merge_arguments-requires : goal.merge_terms-merge_arguments-requires
 merge_terms-merge_arguments-requires t c =
-    let self = c.args.self.now in
     let ts = c.args.terms.list.now in
-    let terms = c.args.terms.orderly in
-    let ps = self.table.items in
-    let os = c.find-x.new.self.table.items in
-    let qs = c.find-y.new.self.table.items in
-    let hs = c.find-y.new.self.heads.items in
-    let x = c.find-x.result in
-    let y = c.find-y.result in
-    let kept : hs ≡ self.heads.items = c.find-y.ensures.heads ∙ c.find-x.ensures.heads in
-    let long : length hs ≡ length ts = ap length kept ∙ head_long self ∙ c.requires.parents.long in
-    let less = merge_fewer ts terms ps hs os qs c.args.a c.args.b x y c.requires.parents long c.requires.sides.0 c.requires.sides.1 c.find-x.ensures.found c.find-y.ensures.found c.if-x-y.false in
-    let parents = merge_parents ts terms ps hs os qs c.args.a c.args.b x y c.requires.parents long c.requires.sides.0 c.requires.sides.1 c.find-x.ensures.found c.find-y.ensures.found c.if-x-y.false in
-    let fewer : roots c.join.new.self.table.items < roots ps = subst (λ (us : List ℕ). roots us < roots ps) (sym c.join.ensures.parents) less in (
+    let like : alike (row (rows ts) c.index-first.result.now) (row (rows ts) c.index-second.result.now) ≡ true = sym c.alike.ensures ∙ c.if-not-alike.false in
+    let fewer = unite_fewer c.args.terms.list.now c.args.terms.orderly c.args.self.now c.find-x.new.self c.find-y.new.self c.args.a c.args.b c.find-x.result c.find-y.result
+    c.requires.parents c.requires.sides.0 c.requires.sides.1 c.find-x.ensures c.find-y.ensures c.if-x-y.false c.join.new.self c.join.ensures.parents c.join.ensures.heads in (
       omega (arith, fewer, c.decreases),
       (
-        subst (λ (us : List ℕ). Parents (length ts) us) (sym c.join.ensures.parents) parents,
+        unite_parents c.args.terms.list.now c.args.terms.orderly c.args.self.now c.find-x.new.self c.find-y.new.self c.args.a c.args.b c.find-x.result c.find-y.result
+            c.requires.parents c.requires.sides.0 c.requires.sides.1 c.find-x.ensures c.find-y.ensures c.if-x-y.false c.join.new.self c.join.ensures.parents c.join.ensures.heads,
         (
           (omega (arith, c.len.ensures.count), omega (arith, c.len-else-first-len.ensures.count)),
-          (
-            alike_length (row (rows ts) c.index-first.result.now) (row (rows ts) c.index-second.result.now) (sym c.alike.ensures ∙ c.if-not-alike.false),
-            omega arith,
-          ),
+          (alike_length (row (rows ts) c.index-first.result.now) (row (rows ts) c.index-second.result.now) like, omega arith),
         ),
       ),
     )
 
 pub merge_terms-returns : goal.merge_terms-returns
 merge_terms-returns t c =
-    let self = c.args.self.now in
-    let ts = c.args.terms.list.now in
-    let terms = c.args.terms.orderly in
-    let ps = self.table.items in
-    let os = c.find-x.new.self.table.items in
-    let qs = c.find-y.new.self.table.items in
-    let hs = c.find-y.new.self.heads.items in
-    let x = c.find-x.result in
-    let y = c.find-y.result in
-    let kept : hs ≡ self.heads.items = c.find-y.ensures.heads ∙ c.find-x.ensures.heads in
-    let long : length hs ≡ length ts = ap length kept ∙ head_long self ∙ c.requires.parents.long in
-    let first : c.index-first.result.now ≡ get_or hs x 0 = get_or_read hs _ _ (omega (arith, c.find-x.ensures.found.climbs.low)) c.index-first.ensures 0 in
-    let second : c.index-second.result.now ≡ get_or hs y 0 = get_or_read hs _ _ (omega (arith, c.find-y.ensures.found.climbs.low)) c.index-second.ensures 0 in
-    let rest = c.merge_arguments.new.self in
-    let r = is_ok c.merge_arguments.result in
-    merge_along ts ps hs self.heads.items _ _ _ _ (λ f. f c.args.a ≡ f c.args.b) (λ v. v c.args.a ≡ v c.args.b) r kept refl refl
-    (merge_alike ts terms ps hs os qs c.args.a c.args.b x y c.requires.parents long c.requires.sides.0 c.requires.sides.1 c.find-x.ensures.found c.find-y.ensures.found c.if-x-y.false
-    (omega (arith, c.len.ensures.count)) (omega (arith, c.len-else-first-len.ensures.count))
-    (ap₂ (λ (p q : ℕ). alike (row (rows ts) p) (row (rows ts) q)) (sym first) (sym second) ∙ sym c.alike.ensures ∙ c.if-not-alike.false)
-    rest.table.items rest.heads.items r
-    (subst₂ (λ (us vs : List ℕ). Merges ts us vs rest.table.items rest.heads.items (Agree (arguments_of ts (get_or hs x 0)) (arguments_of ts (get_or hs y 0)) 0) (Agree (arguments_of ts (get_or hs x 0)) (arguments_of ts (get_or hs y 0)) 0) r)
-    c.join.ensures.parents c.join.ensures.heads
-    (subst₂ (λ (p q : ℕ). Merges ts c.join.new.self.table.items c.join.new.self.heads.items rest.table.items rest.heads.items (Agree (arguments_of ts p) (arguments_of ts q) 0) (Agree (arguments_of ts p) (arguments_of ts q) 0) r)
-    first second c.merge_arguments.ensures)))
+    unite_alike c.args.terms.list.now c.args.terms.orderly c.args.self.now c.find-x.new.self c.find-y.new.self c.args.a c.args.b c.find-x.result c.find-y.result
+    c.requires.parents c.requires.sides.0 c.requires.sides.1 c.find-x.ensures c.find-y.ensures c.if-x-y.false c.join.new.self c.join.ensures.parents c.join.ensures.heads
+    c.index-first.result.now c.index-second.result.now c.index-first.ensures c.index-second.ensures
+    (omega (arith, c.len.ensures.count)) (omega (arith, c.len-else-first-len.ensures.count)) (sym c.alike.ensures ∙ c.if-not-alike.false)
+    c.merge_arguments.new.self.table.items c.merge_arguments.new.self.heads.items (is_ok c.merge_arguments.result) c.merge_arguments.ensures
