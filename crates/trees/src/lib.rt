@@ -1,6 +1,6 @@
 // The logic of trees on a sheet of terms: the equation (a, b) says that the terms a and b have one value. `History` has the
-// standing equations with the classes of forced-equal terms, and `Layers` are these for each number of equations. `settling`
-// brings the two sides of one equation more together, and `telling` reads what is told of a name.
+// standing equations, and for each number of them a `Layer`: the classes of forced-equal terms. `merging`, `visiting` and
+// `settling` bring the two sides of one equation more together, and `telling` reads what is told of a name.
 
 #![tactic(auto)]
 

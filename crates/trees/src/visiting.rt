@@ -101,9 +101,8 @@ impl Visits {
         ensures lowest { self.new.lowest ≡ self.old.lowest }
         ensures placed { Writes self.old self.new class Row.name }
     {
-        if let Ok(number) = self.order.name() {
-            self.marks[class as usize] = Mark::Done(number);
-        }
+        let number = self.order.name().unwrap();
+        self.marks[class as usize] = Mark::Done(number);
     }
 
     // Gives a class the number of its head's symbol over the numbers of the classes of the head's arguments.
@@ -128,9 +127,8 @@ impl Visits {
         ensures lowest { self.new.lowest ≡ self.old.lowest }
         ensures placed { Writes self.old self.new class (Row.over symbol numbers.now) }
     {
-        if let Ok(number) = self.order.term(symbol, numbers) {
-            self.marks[class as usize] = Mark::Done(number);
-        }
+        let number = self.order.term(symbol, numbers).unwrap();
+        self.marks[class as usize] = Mark::Done(number);
     }
 
     // The numbers of the classes of a compound term's arguments, in as many first places.
