@@ -20,34 +20,6 @@ use Rattle.trees.specs.Terms.{Orderly, rows, arguments_of}
 use Rattle.trees.specs.Places.{Placed, Visiting, Writing, Reached}
 use Rattle.trees.proofs.Ways.{argument_term}
 
--- a class is written down as a new row, or as an old one
-pub new_placed : (ms : List Mark) (P S : List Row) (c n : ℕ) (r : Row) → n ≡ length P → S ≡ P ++ (r ∷ []) → Placed ms P (set ms c (Mark.Done n)) S c r
-new_placed ms P S c n r last grown =
-    let long : length S ≡ length P + 1 = omega (arith, ap length grown, length-append P (r ∷ [])) in
-    record {
-      k = n;
-      marked = refl;
-      within = omega arith;
-      is = ap (λ (T : List Row). row T n) grown ∙ get_or_push P r Row.name n (sym last);
-      rows = λ j h. ap (λ (T : List Row). row T j) grown ∙ get_or_append_left P (r ∷ []) Row.name j h;
-      more = omega arith;
-      one = omega arith;
-      new = λ e. omega arith;
-    }
-
-pub old_placed : (ms : List Mark) (P S : List Row) (c n s : ℕ) (xs : List ℕ) → Stands P (Row.over s xs) n → S ≡ P → Placed ms P (set ms c (Mark.Done n)) S c (Row.over s xs)
-old_placed ms P S c n s xs stands same =
-    record {
-      k = n;
-      marked = refl;
-      within = omega (arith, ap length same, stands.0);
-      is = ap (λ (T : List Row). row T n) same ∙ stands.1;
-      rows = λ j h. ap (λ (T : List Row). row T j) same;
-      more = omega (arith, ap length same);
-      one = omega (arith, ap length same);
-      new = λ e. let z : ◌≡◌ {A = ℕ} 0 1 = cc in absurd (omega arith);
-    }
-
 -- the numbers of a compound term's arguments, cut to its arity
 pub numbers_list : (c : Compound) (ns : List ℕ) (g : ℕ → ℕ) → length ns ≡ 8 → ((i : ℕ) → i < c.arity → get_or ns i 0 ≡ g (get_or c.arguments i 0))
     → take (c.arity - 0) ns ≡ map g (take c.arity c.arguments)
