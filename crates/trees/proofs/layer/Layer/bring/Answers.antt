@@ -9,11 +9,6 @@ use Rattle.trees.specs.Terms.{rows}
 use Rattle.trees.proofs.Ways.{argument_term}
 use Rattle.trees.proofs.layer.Layer.bring.Goals as goal
 
-pub visit_all-requires : goal.visit_all-requires
-visit_all-requires c =
-    let unified = c.in_ok-unify.ensures.yes in
-    record { classes = unified.lowest; heads = unified.tops; sheet = c.requires.ready.sheet; marks = c.requires.ready.marks }
-
 pub lower-requires : goal.lower-requires
 lower-requires c =
     let ts = c.args.terms.list.now in
@@ -27,16 +22,6 @@ lower-requires c =
       many = omega (arith, long, visited.visited.long, c.visit_all.new.self.marks.ok.0);
       classes = λ a la. omega (arith, long, unified.lowest.low a (omega arith));
       numbers = λ a la. omega (arith, long, numbers_below (rows ts) ls c.unify.new.self.heads.items c.visit_all.new.self.marks.items (rows_of c.visit_all.new.self.order) unified.lowest visited a (omega arith));
-    }
-
-pub find_heads-requires : goal.find_heads-requires
-find_heads-requires c =
-    let ts = c.args.terms.list.now in
-    let long : length c.unify.new.self.table.items ≡ length ts = c.in_ok-unify.ensures.yes.lowest.long ∙ c.args.terms.orderly.many in
-    let lows = c.lower.ensures.lows.lowest in
-    record {
-      long = omega (arith, long, lows.long, c.unify.new.self.table.ok.0, c.lower.new.self.table.ok.0);
-      classes = λ a la. omega (arith, long, lows.low a (omega (arith, lows.long, c.unify.new.self.table.ok.0, c.lower.new.self.table.ok.0)), lows.long, c.unify.new.self.table.ok.0, c.lower.new.self.table.ok.0);
     }
 
 pub returns-in_err-visit_all-clause-no : goal.returns-in_err-visit_all-clause-no

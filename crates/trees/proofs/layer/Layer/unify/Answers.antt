@@ -16,11 +16,6 @@ merge_terms-requires c =
       sides = c.requires.sides;
     }
 
-pub flatten-requires : goal.flatten-requires
-flatten-requires c =
-    let qs = c.merge_terms.new.self.table.items in
-    subst (λ (n : ℕ). Parents n qs) (sym c.merge_terms.ensures.parents.long) c.merge_terms.ensures.parents
-
 pub returns-in_err-merge_terms-clause-no : goal.returns-in_err-merge_terms-clause-no
 returns-in_err-merge_terms-clause-no c =
     let rs = rows c.args.terms.list.now in
