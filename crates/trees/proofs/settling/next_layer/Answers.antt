@@ -8,29 +8,8 @@ use Rattle.trees.specs.declared.layer.Layer.{Layer}
 use Rattle.trees.proofs.Layering.{table_read, heads_read, joined_parts, front_read, back_read}
 use Rattle.trees.proofs.settling.next_layer.Goals as goal
 
-pub copy_from-requires : goal.copy_from-requires
-copy_from-requires c =
-    let ls = c.args.layers.now in
-    let k = c.args.level in
-    let split = c.split_at_mut-olds in
-    let old = c.index-olds-level.result in
-    let new = c.index-news-0.result in
-    let old-long = ap length (table_read ls k old (omega arith) (front_read ls split.result.0.now k old split.ensures.front c.index-olds-level.is)) in
-    let new-long = ap length (table_read ls (k + 1) new (omega arith) (back_read ls split.result.1.now k new split.ensures.back c.index-news-0.is)) in
-    omega (
-      arith,
-      old-long,
-      new-long,
-      c.requires.tabled.lowest.long,
-      c.args.terms.orderly.many,
-      old.table.ok.0,
-      new.table.ok.0,
-      ap (λ (l : Layer). vec_len l.table) c.index-olds-level.is,
-      ap (λ (l : Layer). vec_len l.table) c.index-news-0.is,
-    )
-
-pub bring-requires : goal.bring-requires
-bring-requires c =
+pub bring-requires-clause-tabled : goal.bring-requires-clause-tabled
+bring-requires-clause-tabled c =
     let ls = c.args.layers.now in
     let k = c.args.level in
     let split = c.split_at_mut-olds in
@@ -40,11 +19,7 @@ bring-requires c =
     = c.copy_from.ensures.table ∙ ap (λ (l : Layer). vec_items l.table) (sym c.index-olds-level.is) ∙ sym (table_read ls k old (omega arith) read) in
     let heads : c.copy_from.new.self.heads.items ≡ heads_at k ls
     = c.copy_from.ensures.heads ∙ ap (λ (l : Layer). vec_items l.heads) (sym c.index-olds-level.is) ∙ sym (heads_read ls k old (omega arith) read) in
-    record {
-      tabled = subst₂ (λ (xs ys : List ℕ). Tabled (rows c.args.terms.list.now) xs ys) (sym table) (sym heads) c.requires.tabled;
-      ready = c.requires.ready;
-      sides = c.requires.sides;
-    }
+    subst₂ (λ (xs ys : List ℕ). Tabled (rows c.args.terms.list.now) xs ys) (sym table) (sym heads) c.requires.tabled
 
 pub returns-clause-next : goal.returns-clause-next
 returns-clause-next c =

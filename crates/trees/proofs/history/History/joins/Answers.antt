@@ -6,6 +6,16 @@ use Rattle.trees.specs.Models.{arities_in, rows_in, stands_in, table_in, heads_i
 use Rattle.trees.proofs.Tabled.{settled_tabled}
 use Rattle.trees.proofs.history.History.joins.Goals as goal
 
+pub index-requires : goal.index-requires
+index-requires c =
+    let h = c.args.self.now in
+    omega (arith, ap length c.top.ensures.table, (settled_tabled (rows_in h) (stands_in h) (table_in h) (heads_in h) (settled_in h)).lowest.long, c.top.result.now.table.ok.0, c.requires.0)
+
+pub index-requires-2 : goal.index-requires-2
+index-requires-2 c =
+    let h = c.args.self.now in
+    omega (arith, ap length c.top.ensures.table, (settled_tabled (rows_in h) (stands_in h) (table_in h) (heads_in h) (settled_in h)).lowest.long, c.top.result.now.table.ok.0, c.requires.1)
+
 pub returns : goal.returns
 returns c =
     let h = c.args.self.now in

@@ -14,26 +14,24 @@ use Rattle.trees.proofs.Written.{many, ready_terms, ready_sheet}
 use Rattle.trees.proofs.Preparing.{layers_still, wide_still, layer_ahead, ahead_fits, refused_clash}
 use Rattle.trees.proofs.history.History.prepare.Goals as goal
 
-pub next_layer-requires : goal.next_layer-requires
-next_layer-requires c =
+pub next_layer-requires-clause-wide : goal.next_layer-requires-clause-wide
+next_layer-requires-clause-wide c =
     let self = c.args.self.now in
     let ls = vec_items self.layers in
-    let ts = c.of.result.list.now in
-    let read = c.of.ensures in
-    let same : c.deref_mut.result.now ≡ ls = c.deref_mut.ensures.value in
-    let sides = between (arities_in self) (rows_in self) c.args.e c.requires.had in
-    let last : length (stands_in self) ≡ c.len.result = omega (arith, self.standing.vec.ok.0, c.len.ensures) in
-    let long = many self.sheet ts read in
     let wide : length (table_at (c.len.result + 1) ls) ≡ length (rows_in self) =
-    ∥∥₁_elim self.wide (hedberg ℕ_discrete (length (table_at (c.len.result + 1) ls)) (length (rows_in self))) (λ w. w (c.len.result + 1) (omega (arith, c.requires.few))) in
-    record {
-      level = omega (arith, c.requires.few, self.full, c.deref_mut.ensures.len, self.layers.ok.0, ap length same);
-      wide = ap (λ (ms : List Layer). length (table_at (c.len.result + 1) ms)) same ∙ wide ∙ sym long;
-      tabled = subst₃ (λ (ms : List Layer) (qs : List Row) (k : ℕ). Tabled qs (table_at k ms) (heads_at k ms)) (sym same) (sym read.rows) last
-          (settled_tabled (rows_in self) (stands_in self) (table_in self) (heads_in self) (settled_in self));
-      ready = ready_terms self.sheet ts read self.visits self.ready;
-      sides = (omega (arith, sides.0, long), omega (arith, sides.1, long));
-    }
+    ∥∥₁_elim self.wide (hedberg ℕ_discrete (length (table_at (c.len.result + 1) ls)) (length (rows_in self))) (λ w. w (c.len.result + 1) (omega (arith, c.requires.few, c.len.ensures.count))) in
+    ap (λ (ms : List Layer). length (table_at (c.len.result + 1) ms)) c.deref_mut.ensures.value ∙ wide ∙ sym (many self.sheet c.of.result.list.now c.of.ensures)
+
+pub next_layer-requires-clause-tabled : goal.next_layer-requires-clause-tabled
+next_layer-requires-clause-tabled c =
+    let self = c.args.self.now in
+    subst₃ (λ (ms : List Layer) (rs : List Row) (k : ℕ). Tabled rs (table_at k ms) (heads_at k ms)) (sym c.deref_mut.ensures.value) (sym c.of.ensures.rows)
+    (let last : length (stands_in self) ≡ c.len.result = omega (arith, self.standing.vec.ok.0, c.len.ensures) in last)
+    (settled_tabled (rows_in self) (stands_in self) (table_in self) (heads_in self) (settled_in self))
+
+pub next_layer-requires-clause-ready : goal.next_layer-requires-clause-ready
+next_layer-requires-clause-ready c =
+    let self = c.args.self.now in ready_terms self.sheet c.of.result.list.now c.of.ensures self.visits self.ready
 
 pub invariant_of-self : goal.invariant_of-self
 invariant_of-self c =

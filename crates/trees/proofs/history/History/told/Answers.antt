@@ -10,18 +10,27 @@ use Rattle.trees.proofs.Tabled.{settled_tabled}
 use Rattle.trees.proofs.Tells.{name_told}
 use Rattle.trees.proofs.history.History.told.Goals as goal
 
-pub told-requires : goal.told-requires
-told-requires c =
+pub told-requires-clause-few : goal.told-requires-clause-few
+told-requires-clause-few c =
+    let h = c.args.self.now in
+    let few : length (rows_in h) ≤ 1024 = ∥∥₁_elim h.sheet.table.sheet le_prop (λ y. y.few) in
+    let tabled = settled_tabled (rows_in h) (stands_in h) (table_in h) (heads_in h) (settled_in h) in
+    omega (arith, few, ap length c.top.ensures.table, tabled.lowest.long, c.top.result.now.table.ok.0)
+
+pub told-requires-clause-lowest : goal.told-requires-clause-lowest
+told-requires-clause-lowest c =
     let h = c.args.self.now in
     let top = c.top.result.now in
     let tabled = settled_tabled (rows_in h) (stands_in h) (table_in h) (heads_in h) (settled_in h) in
     let long : length top.table.items ≡ length (rows_in h) = ap length c.top.ensures.table ∙ tabled.lowest.long in
-    let few : length (rows_in h) ≤ 1024 = ∥∥₁_elim h.sheet.table.sheet le_prop (λ y. y.few) in
-    record {
-      few = omega (arith, long, top.table.ok.0);
-      lowest = subst₂ (λ (n : ℕ) (xs : List ℕ). Lowest n xs) (omega (arith, long, top.table.ok.0)) (sym c.top.ensures.table) tabled.lowest;
-      name = omega (arith, c.requires.0, long, top.table.ok.0);
-    }
+    subst₂ (λ (n : ℕ) (xs : List ℕ). Lowest n xs) (omega (arith, long, top.table.ok.0)) (sym c.top.ensures.table) tabled.lowest
+
+pub told-requires-clause-name : goal.told-requires-clause-name
+told-requires-clause-name c =
+    let h = c.args.self.now in
+    let top = c.top.result.now in
+    let tabled = settled_tabled (rows_in h) (stands_in h) (table_in h) (heads_in h) (settled_in h) in
+    omega (arith, c.requires.0, ap length c.top.ensures.table, tabled.lowest.long, top.table.ok.0)
 
 pub returns : goal.returns
 returns c =

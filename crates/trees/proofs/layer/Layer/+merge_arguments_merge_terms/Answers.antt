@@ -12,19 +12,6 @@ use Rattle.trees.proofs.Uniting.{unite_same, unite_parents, unite_fewer, unite_l
 use Rattle.trees.proofs.layer.Layer.+merge_arguments_merge_terms.Goals as goal
 use Rattle.trees.proofs.layer.Layer.+merge_arguments_merge_terms.Goals.{merge_terms-then-first-len-via-then-first-len, merge_terms-then-first-len-via-else-first-len+then-second-len}
 
-pub merge_arguments-returns-then-place-arity : goal.merge_arguments-returns-then-place-arity
-merge_arguments-returns-then-place-arity t c =
-    let ts = c.args.terms.list.now in
-    merge_none ts c.args.terms.orderly c.args.self.now.table.items c.args.self.now.heads.items (arguments_of ts c.args.a) (arguments_of ts c.args.b) c.args.place c.requires.parents (omega arith)
-
-pub merge_arguments-returns-in_err-merge_terms : goal.merge_arguments-returns-in_err-merge_terms
-merge_arguments-returns-in_err-merge_terms t c =
-    let ts = c.args.terms.list.now in
-    let p = err_from_is_err_and c.from_residual.result c.from_residual.ensures.1 in
-    rw p.1 (merge_clash ts c.args.terms.orderly c.args.self.now.table.items c.args.self.now.heads.items (arguments_of ts c.args.a) (arguments_of ts c.args.b) c.args.place
-    c.argument-x.result c.argument-y.result c.argument-x.ensures c.argument-y.ensures (omega arith) c.merge_terms.new.self.table.items c.merge_terms.new.self.heads.items
-    c.in_err-merge_terms.ensures)
-
 pub merge_arguments-returns : goal.merge_arguments-returns
 merge_arguments-returns t c =
     let ts = c.args.terms.list.now in

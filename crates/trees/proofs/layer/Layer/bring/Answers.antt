@@ -9,20 +9,19 @@ use Rattle.trees.specs.Terms.{rows}
 use Rattle.trees.proofs.Ways.{argument_term}
 use Rattle.trees.proofs.layer.Layer.bring.Goals as goal
 
-pub lower-requires : goal.lower-requires
-lower-requires c =
+pub lower-requires-clause-numbers : goal.lower-requires-clause-numbers
+lower-requires-clause-numbers c =
     let ts = c.args.terms.list.now in
     let ls = c.unify.new.self.table.items in
-    let ok = c.unify.new.self.table.ok.0 in
     let unified = c.in_ok-unify.ensures.yes in
-    let visited = c.in_ok-visit_all.ensures.yes in
-    let long : length ls ≡ length (rows ts) = unified.lowest.long in
-    record {
-      few = omega (arith, long, c.args.terms.orderly.many, c.args.terms.orderly.few);
-      many = omega (arith, long, visited.visited.long, c.visit_all.new.self.marks.ok.0);
-      classes = λ a la. omega (arith, long, unified.lowest.low a (omega arith));
-      numbers = λ a la. omega (arith, long, numbers_below (rows ts) ls c.unify.new.self.heads.items c.visit_all.new.self.marks.items (rows_of c.visit_all.new.self.order) unified.lowest visited a (omega arith));
-    }
+    λ a la.
+    omega (
+      arith,
+      unified.lowest.long,
+      c.unify.new.self.table.ok.0,
+      numbers_below (rows ts) ls c.unify.new.self.heads.items c.visit_all.new.self.marks.items (rows_of c.visit_all.new.self.order) unified.lowest c.in_ok-visit_all.ensures.yes a
+      (omega (arith, unified.lowest.long, c.unify.new.self.table.ok.0)),
+    )
 
 pub returns-in_err-visit_all-clause-no : goal.returns-in_err-visit_all-clause-no
 returns-in_err-visit_all-clause-no c =

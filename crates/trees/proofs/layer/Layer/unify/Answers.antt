@@ -8,14 +8,6 @@ use Rattle.trees.specs.Terms.{rows}
 use Rattle.trees.proofs.Ways.{argument_term}
 use Rattle.trees.proofs.layer.Layer.unify.Goals as goal
 
-pub merge_terms-requires : goal.merge_terms-requires
-merge_terms-requires c =
-    let table = c.args.self.now.table.items in
-    record {
-      parents = subst (λ (n : ℕ). Parents n table) c.args.terms.orderly.many (flat_parents (length (rows c.args.terms.list.now)) table c.requires.tabled.lowest);
-      sides = c.requires.sides;
-    }
-
 pub returns-in_err-merge_terms-clause-no : goal.returns-in_err-merge_terms-clause-no
 returns-in_err-merge_terms-clause-no c =
     let rs = rows c.args.terms.list.now in

@@ -12,8 +12,8 @@ use Rattle.trees.proofs.Ways.{argument_term}
 use Rattle.trees.proofs.Turns.{visit_begun, begin_less, begin_visiting, begin_room, visit_name, begin_inside, head_writing, visit_head, next_class, next_inside, next_visiting, rest_inside, visit_rest}
 use Rattle.trees.proofs.visits.Visits.+visit_visit_arguments.Goals as goal
 
-pub visit-write_name-requires : goal.visit-write_name-requires
-visit-write_name-requires t c =
+pub visit-write_name-requires-clause-room : goal.visit-write_name-requires-clause-room
+visit-write_name-requires-clause-room t c =
     let ts = c.args.terms.list.now in
     let cs = c.args.layer.now.table.items in
     let hs = c.args.layer.now.heads.items in
@@ -22,10 +22,7 @@ visit-write_name-requires t c =
     let Q = rows_of c.args.self.now.order in
     let visiting = c.requires.visiting in
     let was : mark ms c.args.class ≡ Mark.Unseen = sym (get_or_read ms _ _ (omega (arith, visiting.visited.long, visiting.terms.many)) c.index.ensures Mark.Unseen) ∙ c.in-Unseen.is in
-    record {
-      class = omega (arith, visiting.visited.long, visiting.terms.many, c.args.self.now.marks.ok.0);
-      room = begin_room ts cs hs ms ar Q visiting c.args.class c.requires.class.0 c.requires.class.1 was;
-    }
+    begin_room ts cs hs ms ar Q visiting c.args.class c.requires.class.0 c.requires.class.1 was
 
 pub visit-returns-then-head-len-clause-visits : goal.visit-returns-then-head-len-clause-visits
 visit-returns-then-head-len-clause-visits t c =
@@ -140,30 +137,6 @@ visit_arguments-visit-requires t c =
         (
           subst (λ (k : ℕ). (k < length ts) × (class cs k ≡ k)) same (next_class ts cs hs ms ar Q visiting h c.args.place c.requires.head within),
           subst (λ (k : ℕ). Inside (rows ts) (class cs) ms k 1) same (next_inside ts cs hs ms ar Q visiting h c.args.place c.requires.head within c.requires.inside),
-        ),
-      ),
-    )
-
-pub visit_arguments-visit_arguments-requires : goal.visit_arguments-visit_arguments-requires
-visit_arguments-visit_arguments-requires t c =
-    let ts = c.args.terms.list.now in
-    let cs = c.args.layer.now.table.items in
-    let hs = c.args.layer.now.heads.items in
-    let ms = c.args.self.now.marks.items in
-    let ar = arities_of c.args.self.now.order in
-    let Q = rows_of c.args.self.now.order in
-    let visiting = c.requires.visiting in
-    let h = c.args.head in
-    let within : c.args.place < length (arguments_of ts h) = omega arith in
-    let ns = c.visit.new.self.marks.items in
-    let P = rows_of c.visit.new.self.order in
-    let onward = c.in_ok-visit.ensures.visits.onward refl in (
-      omega (arith, c.decreases, onward.fewer),
-      (
-        next_visiting ts cs hs ms ar Q visiting h c.args.place c.requires.head within ns P onward (arities_of c.visit.new.self.order) c.visit.ensures.arities,
-        (
-          c.requires.head,
-          (omega arith, rest_inside ts cs hs ms ar Q visiting h c.args.place c.requires.head within ns P onward c.requires.inside),
         ),
       ),
     )

@@ -9,34 +9,27 @@ use Rattle.trees.proofs.Ways.{argument_term}
 use Rattle.trees.proofs.Turns.{numbers_list, writable_head, over_same}
 use Rattle.trees.proofs.visits.Visits.write_head.Goals as goal
 
-pub numbers-numbers-requires : goal.numbers-numbers-requires
-numbers-numbers-requires c =
+pub numbers-numbers-requires-clause-arguments : goal.numbers-numbers-requires-clause-arguments
+numbers-numbers-requires-clause-arguments c =
     let w = c.requires.writing in
     let ts = c.args.terms.list.now in
     let h = c.args.head in
     let r = row (rows ts) h in
     let read = c.in-Some.ensures in
-    record {
-      arguments = λ i l.
-          let within : i < length (arguments_of ts h) = omega (arith, arity_read r c.in-Some.compound read) in
-          omega (arith, place_read r c.in-Some.compound i read within, argument_term ts w.terms h i (omega (arith, w.terms.many, w.head)) within, w.lowest.long);
-      classes = λ a l. omega (arith, w.lowest.low a (omega (arith, w.lowest.long)), w.lowest.long, w.long);
-    }
+    λ i l.
+    let within : i < length (arguments_of ts h) = omega (arith, arity_read r c.in-Some.compound read) in
+    omega (arith, place_read r c.in-Some.compound i read within, argument_term ts w.terms h i (omega (arith, w.terms.many, w.head)) within, w.lowest.long)
 
-pub write_over-requires : goal.write_over-requires
-write_over-requires c =
-    let w = c.requires.writing in
+pub write_over-requires-clause-writable : goal.write_over-requires-clause-writable
+write_over-requires-clause-writable c =
     let compound = c.in-Some.compound in
     let g = number_of c.args.layer.now.table.items c.args.self.now.marks.items in
+    let ar = arities_of c.args.self.now.order in
     let P = rows_of c.args.self.now.order in
     let listed = numbers_list compound c.numbers-numbers.result g (omega arith) c.numbers-numbers.ensures in
-    record {
-      class = omega (arith, w.class, c.args.self.now.marks.ok.0);
-      room = w.room;
-      writable = subst (λ (xs : List ℕ). Writable (arities_of c.args.self.now.order) (length P) compound.symbol xs) (sym listed)
-          (writable_head c.args.terms.list.now c.args.layer.now.table.items c.args.self.now.marks.items (arities_of c.args.self.now.order) P c.args.class c.args.head
-          compound.symbol (take compound.arity compound.arguments) w c.in-Some.ensures);
-    }
+    subst (λ (xs : List ℕ). Writable ar (length P) compound.symbol xs) (sym listed)
+    (writable_head c.args.terms.list.now c.args.layer.now.table.items c.args.self.now.marks.items ar P c.args.class c.args.head
+    compound.symbol (take compound.arity compound.arguments) c.requires.writing c.in-Some.ensures)
 
 pub returns-in-Some-clause-placed : goal.returns-in-Some-clause-placed
 returns-in-Some-clause-placed c =
