@@ -4,9 +4,9 @@ ghost use Rattle.std.specs.Prelude.{◌≡◌, vec_len};
 ghost use Rattle.sheet.specs.Models.{rows_of};
 ghost use Rattle.trees.specs.Layers.{Layered, Wide, Ready};
 
-use bounded::Bounded;
 use crate::layer::Layer;
 use crate::visits::Visits;
+use bounded::Bounded;
 use logic::{Equation, ROOM};
 use sheet::OpenSheet;
 

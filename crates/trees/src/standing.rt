@@ -7,17 +7,16 @@ ghost use Rattle.trees.specs.Terms.{rows};
 ghost use Rattle.trees.specs.Layers.{Ready};
 ghost use Rattle.trees.specs.Models.{Founded, stands_in, theory_in, Prepared};
 
-use bounded::Bounded;
 use crate::clash::Clash;
 use crate::history::{History, Standing};
 use crate::layer::Layer;
 use crate::settling::next_layer;
 use crate::term_list::Terms;
 use crate::visits::Visits;
+use bounded::Bounded;
 use logic::{Equation, ROOM};
 use sheet::OpenSheet;
 use std::alloc::{AllocError, Global};
-use unify::Mark;
 
 impl History {
     // Nothing stands, and each term is in a class of its own. This takes all the memory that a history ever needs.
@@ -26,17 +25,12 @@ impl History {
     {
         let standing = Bounded::new(heap)?;
         let layers = layers(heap, Terms::of(&sheet))?;
-        let visits = visits(heap, &sheet)?;
+        let visits = Visits::new(heap, &sheet)?;
         Ok(History::first(sheet, standing, layers, visits))
     }
 
     // The same, in memory that is at hand.
-    fn first(
-        sheet: OpenSheet,
-        standing: Standing,
-        layers: Vec<Layer>,
-        visits: Visits,
-    ) -> History
+    fn first(sheet: OpenSheet, standing: Standing, layers: Vec<Layer>, visits: Visits) -> History
         requires empty { standing.vec.items ≡ [] }
         requires founded { Founded (rows_of sheet) layers.items }
         requires ready { Ready (rows_of sheet) visits }
@@ -111,19 +105,4 @@ fn layers(heap: Global, terms: Terms) -> Result<Vec<Layer>, AllocError>
         layers.push_reserved(Layer::apart(heap, terms)?);
     }
     Ok(layers)
-}
-
-// What the layers of a sheet's terms are made with.
-fn visits(heap: Global, sheet: &OpenSheet) -> Result<Visits, AllocError>
-    ensures { IfOk result (λ v. Ready (rows_of sheet.now) v) }
-{
-    let count = sheet.terms().len();
-    let marks = vec![in heap; Mark::Unseen; count]?;
-    let lowest = vec![in heap; 0u16; count]?;
-    let order = sheet.blank(heap)?;
-    Ok(Visits {
-        marks,
-        lowest,
-        order,
-    })
 }

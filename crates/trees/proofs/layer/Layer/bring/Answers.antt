@@ -20,7 +20,7 @@ lower-requires-clause-numbers c =
       unified.lowest.long,
       c.unify.new.self.table.ok.0,
       numbers_below (rows ts) ls c.unify.new.self.heads.items c.visit_all.new.self.marks.items (rows_of c.visit_all.new.self.order) unified.lowest c.in_ok-visit_all.ensures.yes a
-      (omega (arith, unified.lowest.long, c.unify.new.self.table.ok.0)),
+          (omega (arith, unified.lowest.long, c.unify.new.self.table.ok.0)),
     )
 
 pub returns-in_err-visit_all-clause-no : goal.returns-in_err-visit_all-clause-no

@@ -21,4 +21,3 @@ loop-class-init c =
       refl,
       refl,
     )
-
