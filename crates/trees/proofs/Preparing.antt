@@ -1,10 +1,9 @@
 -- What the layer after the newest says of the equation that it is made for. Assumes nothing.
-use Rattle.std.proofs.Common.{◌≡◌, ℕ, ◌+◌, ◌<◌, true, Result, OnOk, OnErr, List, [], ◌∷◌, ◌++◌, length, vec_items, sym, ◌∙◌, subst, subst₂, arith}
+use Rattle.std.proofs.Common.{◌≡◌, ℕ, ◌+◌, ◌<◌, true, Result, OnOk, OnErr, List, [], ◌∷◌, ◌++◌, length, sym, subst, subst₂, arith}
 use mathlib.Core.Logic.{∥∥₁_map}
 use Rattle.std.proofs.lemmas.Result.{on_ok_weaker, on_err_weaker}
 use Rattle.logic.specs.Theories.{Clash as Clashes}
 use Rattle.logic.specs.declared.Equation.{Equation}
-use Rattle.terms.specs.Sheets.{Row}
 use Rattle.terms.specs.Trees.{trees}
 use Rattle.terms.proofs.Forced.{between}
 use Rattle.classes.specs.Classes.{Settled}

@@ -1,6 +1,6 @@
 -- The turns of a visit, one by one. Assumes nothing.
-use Rattle.std.proofs.Common.{◌≡◌, ℕ, ◌+◌, ◌-◌, ◌<◌, ◌≤◌, Bool, true, false, List, [], ◌∷◌, ◌++◌, map, length, get_or, take, set, sym, refl, ap, ◌∙◌, subst, inl, inr, arith, length-append, length-take, get_or-take}
-use Rattle.std.proofs.lemmas.List.{get_or-map, get_or_append_left, get_or_push, length-map, ext_get_or}
+use Rattle.std.proofs.Common.{◌≡◌, ℕ, ◌+◌, ◌-◌, ◌<◌, ◌≤◌, Bool, true, false, List, [], map, length, get_or, take, set, sym, refl, ap, ◌∙◌, subst, inl, inr, arith, length-take, get_or-take}
+use Rattle.std.proofs.lemmas.List.{get_or-map, length-map, ext_get_or}
 use Rattle.std.proofs.lemmas.Bool.{cases_eq}
 use Rattle.logic.specs.Trees.{Tree}
 use Rattle.terms.specs.Sheets.{Row, row, arguments, Compound as IsCompound, Sheet, Writable}
@@ -13,7 +13,6 @@ use Rattle.unify.specs.Settling.{number_of, AllVisited}
 use Rattle.unify.proofs.Lists.{never, over_of}
 use Rattle.unify.proofs.Merges.{never_false}
 use Rattle.unify.proofs.Visits.{mark_other, begun_fresh, unseen_less, unseen_within, start_visited, onward_refl, onward_trans, begin_visited, finish_onward, finish_numbered, size_argument}
-use Rattle.sheet.specs.Rows.{Stands}
 use Rattle.sheet.specs.declared.rows.Term.{Term}
 use Rattle.sheet.specs.declared.rows.Compound.{Compound}
 use Rattle.trees.specs.Terms.{Orderly, rows, arguments_of}

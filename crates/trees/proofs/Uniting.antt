@@ -1,6 +1,6 @@
 -- The ways through a merge, of layers: l before it, n when the terms x and y were found to stand for the classes, u when they were
 -- joined. Assumes nothing.
-use Rattle.std.proofs.Common.{◌≡◌, ℕ, ◌<◌, ◌≤◌, ◌⊎◌, min, max, Bool, true, false, List, length, get_or, set, vec_items, sym, refl, ap, ◌∙◌, subst, ap₂, subst₂, inl, inr, arith}
+use Rattle.std.proofs.Common.{◌≡◌, ℕ, ◌<◌, ◌≤◌, min, max, Bool, true, false, List, length, get_or, set, vec_items, sym, ap, ◌∙◌, subst, ap₂, subst₂, arith}
 use Rattle.std.proofs.lemmas.List.{get_or_read}
 use Rattle.terms.specs.Sheets.{row}
 use Rattle.unify.specs.Parents.{Parents, roots}

@@ -12,10 +12,11 @@ use Rattle.trees.specs.declared.clash.Clash.{Clash}
 use Rattle.trees.specs.declared.layer.Layer.{Layer}
 use Rattle.trees.specs.declared.visits.Visits.{Visits}
 
--- The table of the layer k, and its heads.
+-- The table of the layer k.
 abbrev pub table_at : ℕ → List Layer → List ℕ
 table_at k ls = slice_index_or (map (λ l. vec_items l.table) ls) k []
 
+-- The heads of the layer k.
 abbrev pub heads_at : ℕ → List Layer → List ℕ
 heads_at k ls = slice_index_or (map (λ l. vec_items l.heads) ls) k []
 

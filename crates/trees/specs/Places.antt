@@ -53,17 +53,19 @@ pub record Reached (ts : List Term) (cs hs : List ℕ) (ms : List Mark) (ar : Li
   pub calm : (d : ℕ) → d < length (rows ts) → mark ms d ≢ Mark.Begun
   pub all : (c : ℕ) → c < n → classed cs c ≡ c → Numbered ms c
 
--- The same of a layer and a workspace: what a visit finds, what is needed to write a class down by its head, how a class was
--- written down, and what a visit answers, which found v and left w.
+-- What a visit finds, of a layer and the visits so far.
 abbrev pub Visitable : List Term → Layer → Visits → Type 0
 Visitable ts l v = Visiting ts (vec_items l.table) (vec_items l.heads) (vec_items v.marks) (arities_of v.order) (rows_of v.order)
 
+-- What is needed to write a class down by its head, of these.
 abbrev pub Headed : List Term → Layer → Visits → ℕ → ℕ → Type 0
 Headed ts l v c h = Writing ts (vec_items l.table) (vec_items v.marks) (arities_of v.order) (rows_of v.order) c h
 
+-- From the visits v to w the class c got the number of the row r.
 abbrev pub Writes : Visits → Visits → ℕ → Row → Type 0
 Writes v w c r = Placed (vec_items v.marks) (rows_of v.order) (vec_items w.marks) (rows_of w.order) c r
 
+-- What a visit answers that found the visits v and left w.
 abbrev pub Goes : List Term → Layer → Visits → Visits → Type 0 → Result (Unit {0}) Clash → Type 0
 Goes ts l v w goal r =
     Answered (rows ts) (classed (vec_items l.table)) (vec_items l.heads) (vec_items v.marks) (rows_of v.order) (vec_items w.marks) (rows_of w.order) goal (is_ok r)

@@ -19,10 +19,11 @@ abbrev pub head_alone : ℕ → ℕ → Row → ℕ
 head_alone n none Row.name = none
 head_alone n none (Row.over s xs) = n
 
--- The table of n terms that are each alone in a class, and the heads of those classes.
+-- The table of n terms that are each alone in a class.
 abbrev pub alone : ℕ → List ℕ
 alone n = map (λ a. a) (range_with_len 0 n)
 
+-- And the heads of those classes, where the terms have the rows rs.
 abbrev pub heads_alone : ℕ → List Row → List ℕ
 heads_alone n rs = map (λ a. head_alone a n (row rs a)) (range_with_len 0 n)
 

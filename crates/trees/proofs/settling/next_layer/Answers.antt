@@ -1,11 +1,11 @@
-use Rattle.std.proofs.Common.{◌≡◌, ℕ, ◌+◌, ◌∷◌, [], ◌++◌, List, length, vec_items, vec_len, sym, ap, ◌∙◌, subst, subst₂, arith}
+use Rattle.std.proofs.Common.{◌≡◌, ℕ, List, length, vec_items, sym, ap, ◌∙◌, subst, subst₂, arith}
 use Rattle.std.proofs.lemmas.Result.{on_ok_weaker, on_err_weaker}
 use Rattle.classes.specs.Classes.{class, Settled}
 use Rattle.unify.specs.Settling.{Tabled, Refuted}
 use Rattle.trees.specs.Terms.{rows}
 use Rattle.trees.specs.Layers.{table_at, heads_at}
 use Rattle.trees.specs.declared.layer.Layer.{Layer}
-use Rattle.trees.proofs.Layering.{table_read, heads_read, joined_parts, front_read, back_read}
+use Rattle.trees.proofs.Layering.{table_read, heads_read, joined_parts, front_read}
 use Rattle.trees.proofs.settling.next_layer.Goals as goal
 
 pub bring-requires-clause-tabled : goal.bring-requires-clause-tabled

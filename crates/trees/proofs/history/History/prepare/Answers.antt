@@ -1,13 +1,12 @@
-use Rattle.std.proofs.Common.{◌≡◌, ℕ, ◌+◌, ◌<◌, List, [], ◌∷◌, ◌++◌, OnOk, length, take, drop, vec_items, sym, refl, ap, ◌∙◌, subst, subst₂, arith, take_at}
+use Rattle.std.proofs.Common.{◌≡◌, ℕ, ◌+◌, ◌<◌, List, [], ◌∷◌, ◌++◌, OnOk, length, take, drop, vec_items, sym, refl, ap, ◌∙◌, subst, arith, take_at}
 use mathlib.Core.HLevel.{hedberg}
 use mathlib.Core.Logic.{∥∥₁_elim}
 use mathlib.Core.Path.{subst₃}
 use native.Mathlib.Decide.{ℕ_discrete}
 use Rattle.terms.specs.Sheets.{Row}
-use Rattle.terms.proofs.Forced.{between}
 use Rattle.unify.specs.Settling.{Tabled}
 use Rattle.trees.specs.Layers.{table_at, heads_at, Layered, Wide, Nexts, SettledAt}
-use Rattle.trees.specs.Models.{arities_in, rows_in, stands_in, table_in, heads_in, settled_in}
+use Rattle.trees.specs.Models.{rows_in, stands_in, table_in, heads_in, settled_in}
 use Rattle.trees.specs.declared.layer.Layer.{Layer}
 use Rattle.trees.proofs.Tabled.{settled_tabled}
 use Rattle.trees.proofs.Written.{many, ready_terms, ready_sheet}

@@ -1,4 +1,4 @@
-use Rattle.std.proofs.Common.{List, sym, subst, arith}
+use Rattle.std.proofs.Common.{List, sym, subst}
 use mathlib.Core.Logic.{∥∥₁_map₂}
 use Rattle.logic.specs.declared.Equation.{Equation}
 use Rattle.trees.specs.Layers.{Layered}

@@ -1,13 +1,9 @@
-use Rattle.std.proofs.Common.{◌≡◌, ℕ, ◌<◌, true, false, List, length, is_ok, get_or, sym, refl, ap, ◌∙◌, subst, ap₂, subst₂, arith}
-use Rattle.std.proofs.lemmas.Result.{err_from_is_err_and}
-use Rattle.std.proofs.lemmas.List.{get_or_read}
+use Rattle.std.proofs.Common.{◌≡◌, ◌<◌, true, length, is_ok, sym, ◌∙◌, arith}
 use Rattle.terms.specs.Sheets.{row}
-use Rattle.unify.specs.Parents.{Parents, roots}
-use Rattle.unify.specs.Merging.{Agree, alike}
+use Rattle.unify.specs.Merging.{alike}
 use Rattle.unify.proofs.Lists.{alike_length}
 use Rattle.trees.specs.Terms.{rows, arguments_of}
-use Rattle.trees.specs.Merges.{Merges}
-use Rattle.trees.proofs.Ways.{merge_none, merge_clash, merge_next}
+use Rattle.trees.proofs.Ways.{merge_next}
 use Rattle.trees.proofs.Uniting.{unite_same, unite_parents, unite_fewer, unite_left, unite_right, unite_unlike, unite_alike}
 use Rattle.trees.proofs.layer.Layer.+merge_arguments_merge_terms.Goals as goal
 use Rattle.trees.proofs.layer.Layer.+merge_arguments_merge_terms.Goals.{merge_terms-then-first-len-via-then-first-len, merge_terms-then-first-len-via-else-first-len+then-second-len}

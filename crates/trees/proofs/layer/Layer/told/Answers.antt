@@ -1,7 +1,6 @@
-use Rattle.std.proofs.Common.{◌≡◌, ◌<◌, length, get_or, ap, ◌∙◌, arith}
+use Rattle.std.proofs.Common.{◌≡◌, length, get_or, arith}
 use Rattle.std.proofs.lemmas.List.{get_or_read}
-use Rattle.logic.specs.Tellings.Told.{told}
-use Rattle.trees.proofs.Counted.{head_told, group_told}
+use Rattle.trees.proofs.Counted.{group_told}
 use Rattle.trees.proofs.Layering.{head_long}
 use Rattle.trees.proofs.layer.Layer.told.Goals as goal
 

@@ -1,9 +1,9 @@
 use Rattle.std.proofs.Common.{◌≡◌, ℕ, List, length, sym, refl, ◌∙◌, subst, arith}
 use Rattle.std.proofs.lemmas.Result.{err_from_is_err_and}
 use Rattle.classes.specs.Classes.{class}
-use Rattle.unify.specs.Parents.{Parents, Rooted}
+use Rattle.unify.specs.Parents.{Rooted}
 use Rattle.unify.specs.Settling.{Unified}
-use Rattle.unify.proofs.Settles.{flat_parents, flat_rooted, heads_tops, unified}
+use Rattle.unify.proofs.Settles.{flat_rooted, heads_tops, unified}
 use Rattle.trees.specs.Terms.{rows}
 use Rattle.trees.proofs.Ways.{argument_term}
 use Rattle.trees.proofs.layer.Layer.unify.Goals as goal

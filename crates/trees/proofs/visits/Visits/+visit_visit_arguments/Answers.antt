@@ -9,7 +9,7 @@ use Rattle.trees.specs.Terms.{rows, arguments_of}
 use Rattle.trees.specs.Places.{Placed, Writing}
 use Rattle.unify.specs.Settling.{number_of}
 use Rattle.trees.proofs.Ways.{argument_term}
-use Rattle.trees.proofs.Turns.{visit_begun, begin_less, begin_visiting, begin_room, visit_name, begin_inside, head_writing, visit_head, next_class, next_inside, next_visiting, rest_inside, visit_rest}
+use Rattle.trees.proofs.Turns.{visit_begun, begin_less, begin_visiting, begin_room, visit_name, begin_inside, head_writing, visit_head, next_class, next_inside, visit_rest}
 use Rattle.trees.proofs.visits.Visits.+visit_visit_arguments.Goals as goal
 
 pub visit-write_name-requires-clause-room : goal.visit-write_name-requires-clause-room

@@ -1,12 +1,7 @@
-use Rattle.std.proofs.Common.{◌≡◌, ℕ, ◌+◌, length, get_or, vec_len, sym, refl, ap, ◌∙◌, subst, arith}
-use Rattle.std.proofs.lemmas.List.{get_or_read}
-use Rattle.std.proofs.lemmas.Result.{err_from_is_err_and}
-use Rattle.classes.specs.Classes.{class}
+use Rattle.std.proofs.Common.{◌≡◌, vec_len, refl, ap, ◌∙◌, arith}
 use Rattle.sheet.specs.Models.{arities_of, rows_of}
-use Rattle.trees.specs.Places.{Reached}
-use Rattle.trees.specs.declared.visits.Visits.{Visits}
 use Rattle.trees.proofs.Layering.{head_long}
-use Rattle.trees.proofs.Turns.{reached_start, reached_inside, reached_skip, reached_visit, reached_all}
+use Rattle.trees.proofs.Turns.{reached_start}
 use Rattle.trees.proofs.visits.Visits.visit_all.Goals as goal
 
 pub loop-class-init : goal.loop-class-init
