@@ -1,12 +1,10 @@
 -- Layers as they are made, written and forgotten. Assumes nothing.
-use Rattle.std.proofs.Common.{◌≡◌, ◌≢◌, ℕ, zero, suc, ◌+◌, ◌-◌, ◌<◌, ◌≤◌, ◌⊎◌, Result, Ok, Err, List, [], ◌∷◌, ◌++◌, map, length, get_or, take, drop, set, vec_items, sym, refl, ap, ◌∙◌, subst, ap₂, subst₂, inl, inr, arith, length-append, length-take, get_or-drop, get_or-take, take_all, take-take}
+use Rattle.std.proofs.Common.{◌≡◌, ◌≢◌, ℕ, zero, suc, ◌+◌, ◌-◌, ◌<◌, ◌≤◌, ◌⊎◌, List, [], ◌∷◌, ◌++◌, map, length, get_or, take, drop, set, vec_items, sym, refl, ap, ◌∙◌, subst, ap₂, subst₂, inl, inr, arith, length-append, length-take, get_or-drop, get_or-take, take_all, take-take}
 use lib.Seq.{take-append-le}
 use Rattle.std.specs.List.{range_with_len}
 use Rattle.std.proofs.lemmas.List.{get_or-map, map-set, length-map, get_or-set_same, get_or-set_other, set-append_right, get_or_push, get_or_append_left}
 use Rattle.std.proofs.lemmas.List.FromFn.{map-range_with_len_more, length-map-range_with_len, get_or-map-range_with_len}
 use Rattle.std.proofs.lemmas.Bool.{cases_eq}
-use Rattle.bounded.specs.declared.Full.{Full}
-use Rattle.bounded.specs.Bounds.{Pushes}
 use Rattle.logic.specs.declared.Equation.{Equation}
 use Rattle.terms.specs.Sheets.{Row, row, Compound, Sheet}
 use Rattle.classes.specs.Classes.{Settled}
@@ -105,11 +103,6 @@ front_read ls olds k l front read = read ∙ ap (λ (os : List Layer). get_or os
 pub back_read : (ls news : List Layer) (k : ℕ) (l : Layer) → news ≡ drop (k + 1) ls → l ≡ get_or news 0 l → l ≡ get_or ls (k + 1) l
 back_read ls news k l back read =
     read ∙ ap (λ (ns : List Layer). get_or ns 0 l) back ∙ get_or-drop (k + 1) ls 0 l ∙ ap (λ (i : ℕ). get_or ls i l) (let z : k + 1 + 0 ≡ k + 1 = omega arith in z)
-
--- where there is room, a push adds its item
-pub pushed : (n : ℕ) (es : List Equation) (e : Equation) (r : Result (Unit {0}) Full) (fs : List Equation) → length es < n → Pushes n es e r fs → fs ≡ es ++ (e ∷ [])
-pushed n es e (Ok u) fs h pushes = pushes.1
-pushed n es e (Err full) fs h pushes = absurd (omega (arith, pushes.0))
 
 module _ (rs : List Row) (es : List Equation) (ls : List Layer) where
   -- with nothing standing

@@ -84,7 +84,7 @@ impl History {
         ensures sheet { self.new.sheet ≡ self.old.sheet }
         ensures newest { stands_in self.new ≡ stands_in self.old ++ (e ∷ []) }
     {
-        self.standing.push(e).unwrap();
+        note(&mut self.standing, e);
     }
 
     // Keeps the oldest n equations, or all where fewer stand.
@@ -94,6 +94,14 @@ impl History {
     {
         self.standing.truncate(n);
     }
+}
+
+// Notes an equation as the newest, where there is room for it.
+fn note(standing: &mut Standing, e: Equation)
+    requires { length standing.old.vec.items < 256 }
+    ensures { standing.new.vec.items ≡ standing.old.vec.items ++ (e ∷ []) }
+{
+    standing.push(e).unwrap();
 }
 
 // A layer for each number of standing equations: in each of them every term is in a class of its own.
