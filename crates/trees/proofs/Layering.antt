@@ -1,78 +1,69 @@
--- Layers of tables as they are made, written and forgotten. Assumes nothing.
-use Rattle.std.proofs.Common.{◌≡◌, ℕ, zero, suc, ◌+◌, ◌-◌, ◌*◌, ◌<◌, ◌≤◌, ◌⊎◌, List, [], ◌∷◌, ◌++◌, length, get_or, take, drop, sym, refl, ap, ◌∙◌, subst, ap₂, subst₂, inl, inr, mul-le-mul_right, arith, length-append, length-drop, length-take, get_or-drop, take_all, get_or-take, take-take, ext_get_or}
+-- Layers as they are made, written and forgotten. Assumes nothing.
+use Rattle.std.proofs.Common.{◌≡◌, ◌≢◌, ℕ, zero, suc, ◌+◌, ◌-◌, ◌<◌, ◌≤◌, ◌⊎◌, List, [], ◌∷◌, ◌++◌, map, length, get_or, take, drop, set, vec_items, sym, refl, ap, ◌∙◌, subst, ap₂, subst₂, inl, inr, arith, length-append, length-take, get_or-drop, get_or-take, take_all, take-take}
 use lib.Seq.{take-append-le}
-use borrow.Rule.Slice.PartMut.{put_mid}
-use Rattle.std.proofs.lemmas.Slice.{between_is, take-put_mid_below, between-put_mid}
+use Rattle.std.specs.List.{range_with_len}
+use Rattle.std.proofs.lemmas.List.{get_or-map, map-set, length-map, get_or-set_same, get_or-set_other, set-append_right, get_or_push, get_or_append_left}
+use Rattle.std.proofs.lemmas.List.FromFn.{map-range_with_len_more, length-map-range_with_len, get_or-map-range_with_len}
+use Rattle.std.proofs.lemmas.Bool.{cases_eq}
 use Rattle.logic.specs.declared.Equation.{Equation}
 use Rattle.terms.specs.Sheets.{Row, row, Compound, Sheet}
 use Rattle.classes.specs.Classes.{Settled}
 use Rattle.classes.proofs.Apart.{apart_settled}
-use Rattle.trees.specs.Layers.{layer, Below, SettledAt, Layered, head_alone, Alone}
+use Rattle.trees.specs.Terms.{head_alone, alone, heads_alone}
+use Rattle.trees.specs.Layers.{table_at, heads_at, SettledAt, Layered, Wide}
+use Rattle.trees.specs.declared.layer.Layer.{Layer}
 
--- the layers up to the 256th have room, and so has one after each before
-pub room : (k n m : ℕ) → k ≤ 256 → m ≡ 257 * n → k * n + n ≤ m
-room k n m h long = let all : (k + 1) * n ≤ 257 * n = mul-le-mul_right n (omega arith) in omega arith
+-- as many heads as terms
+pub head_long : (l : Layer) → length (vec_items l.heads) ≡ length (vec_items l.table)
+head_long l = omega (arith, l.long, l.table.ok.0, l.heads.ok.0)
 
-pub next_room : (k n m : ℕ) → k < 256 → m ≡ 257 * n → k * n + n + n ≤ m
-next_room k n m h long = let all : (k + 2) * n ≤ 257 * n = mul-le-mul_right n (omega arith) in omega arith
+module _ (ls : List Layer) where
+  -- a layer that is read has the table and the heads of its number
+  pub table_read : (k : ℕ) (l : Layer) → k < length ls → l ≡ get_or ls k l → table_at k ls ≡ vec_items l.table
+  table_read k l h read = get_or-map (λ (m : Layer). vec_items m.table) ls k l [] h ∙ ap (λ (m : Layer). vec_items m.table) (sym read)
 
--- an entry of a layer
-pub layer_read : (n k i : ℕ) (xs : List ℕ) → i < n → get_or (layer n k xs) i 0 ≡ get_or xs (k * n + i) 0
-layer_read n k i xs h = get_or-take n (drop (k * n) xs) i 0 h ∙ get_or-drop (k * n) xs i 0
+  pub heads_read : (k : ℕ) (l : Layer) → k < length ls → l ≡ get_or ls k l → heads_at k ls ≡ vec_items l.heads
+  heads_read k l h read = get_or-map (λ (m : Layer). vec_items m.heads) ls k l [] h ∙ ap (λ (m : Layer). vec_items m.heads) (sym read)
 
-length_part : (n a : ℕ) (xs : List ℕ) → a + n ≤ length xs → length (take n (drop a xs)) ≡ n
-length_part n a xs h = omega (arith, length-take n (drop a xs), length-drop a xs)
+  -- a layer that is written leaves the others
+  module _ (i : ℕ) (l : Layer) where
+    pub table_new : i < length ls → table_at i (set ls i l) ≡ vec_items l.table
+    table_new h =
+        ap (λ (xss : List (List ℕ)). get_or xss i []) (map-set (λ (m : Layer). vec_items m.table) ls i l)
+        ∙ get_or-set_same (map (λ (m : Layer). vec_items m.table) ls) i (vec_items l.table) [] (omega (arith, length-map ls (λ (m : Layer). vec_items m.table)))
 
-part_ext : (n a b : ℕ) (xs ys : List ℕ) → a + n ≤ length xs → b + n ≤ length ys → ((i : ℕ) → i < n → get_or xs (a + i) 0 ≡ get_or ys (b + i) 0)
-    → take n (drop a xs) ≡ take n (drop b ys)
-part_ext n a b xs ys h k e =
-    ext_get_or 0 (take n (drop a xs)) (take n (drop b ys)) (length_part n a xs h ∙ sym (length_part n b ys k))
-    (λ i l.
-    let li : i < n = omega (arith, length_part n a xs h) in
-    (get_or-take n (drop a xs) i 0 li ∙ get_or-drop a xs i 0) ∙ e i li ∙ sym (get_or-take n (drop b ys) i 0 li ∙ get_or-drop b ys i 0))
+    pub heads_new : i < length ls → heads_at i (set ls i l) ≡ vec_items l.heads
+    heads_new h =
+        ap (λ (xss : List (List ℕ)). get_or xss i []) (map-set (λ (m : Layer). vec_items m.heads) ls i l)
+        ∙ get_or-set_same (map (λ (m : Layer). vec_items m.heads) ls) i (vec_items l.heads) [] (omega (arith, length-map ls (λ (m : Layer). vec_items m.heads)))
 
--- the layers up to k lie below the one after it
-below_room : (n j k : ℕ) → j ≤ k → j * n + n ≤ k * n + n
-below_room n j k h = let m : j * n ≤ k * n = mul-le-mul_right n h in omega arith
+    pub table_other : (j : ℕ) → j ≢ i → table_at j (set ls i l) ≡ table_at j ls
+    table_other j ne =
+        ap (λ (xss : List (List ℕ)). get_or xss j []) (map-set (λ (m : Layer). vec_items m.table) ls i l)
+        ∙ get_or-set_other (map (λ (m : Layer). vec_items m.table) ls) i j (vec_items l.table) [] ne
 
--- a layer that is written after k leaves those up to k, and is what was written
-pub layer_kept : (n k j m : ℕ) (xs ys : List ℕ) → k * n + n ≤ length xs → j ≤ k → layer n j (put_mid (k * n + n) m xs ys) ≡ layer n j xs
-layer_kept n k j m xs ys h l =
-    let r : j * n + n ≤ k * n + n = below_room n j k l in
-    let e : n ≡ j * n + n - j * n = omega arith in
-    ap (λ (z : ℕ). take z (drop (j * n) (put_mid (k * n + n) m xs ys))) e
-    ∙ between_is (put_mid (k * n + n) m xs ys) (j * n) (j * n + n)
-    ∙ ap (drop (j * n)) (take-put_mid_below (k * n + n) m xs ys (j * n + n) r h)
-    ∙ sym (between_is xs (j * n) (j * n + n))
-    ∙ ap (λ (z : ℕ). take z (drop (j * n) xs)) (sym e)
+    pub heads_other : (j : ℕ) → j ≢ i → heads_at j (set ls i l) ≡ heads_at j ls
+    heads_other j ne =
+        ap (λ (xss : List (List ℕ)). get_or xss j []) (map-set (λ (m : Layer). vec_items m.heads) ls i l)
+        ∙ get_or-set_other (map (λ (m : Layer). vec_items m.heads) ls) i j (vec_items l.heads) [] ne
 
-pub layer_new : (n k m : ℕ) (xs ys : List ℕ) → k * n + n ≤ length xs → length ys ≡ n → layer n (k + 1) (put_mid (k * n + n) m xs ys) ≡ ys
-layer_new n k m xs ys h l =
-    let e : n ≡ k * n + n + n - (k * n + n) = omega arith in
-    let f : (k + 1) * n ≡ k * n + n = omega arith in
-    ap₂ (λ (z w : ℕ). take z (drop w (put_mid (k * n + n) m xs ys))) e f ∙ between-put_mid (k * n + n) m xs ys (k * n + n + n) h (omega arith)
+    pub wide_kept : (rs : List Row) (n : ℕ) → i < length ls → length (vec_items l.table) ≡ length rs → Wide rs ls n → Wide rs (set ls i l) n
+    wide_kept rs n h long wide k lk =
+        elim (cases_eq k i) [
+          | inl same ↦ ap (λ (j : ℕ). length (table_at j (set ls i l))) same ∙ ap length (table_new h) ∙ long
+          | inr other ↦ ap length (table_other k other) ∙ wide k lk
+        ]
 
--- the layer k copied to the place after it
-module _ (n k : ℕ) (xs zs : List ℕ) (h : k * n + n + n ≤ length xs) (l : length zs ≡ length xs) where
-  pub copied_layer : ((j d : ℕ) → k * n + n ≤ j → j < k * n + n + (k * n + n - k * n) → get_or zs j d ≡ get_or xs (k * n + (j - (k * n + n))) d)
-      → take (k * n + n + n - (k * n + n)) (drop (k * n + n) zs) ≡ layer n k xs
-  copied_layer p =
-      let e : k * n + n + n - (k * n + n) ≡ n = omega arith in
-      ap (λ (z : ℕ). take z (drop (k * n + n) zs)) e
-      ∙ part_ext n (k * n + n) (k * n) zs xs (omega arith) (omega arith)
-      (λ i li.
-      let f : k * n + (k * n + n + i - (k * n + n)) ≡ k * n + i = omega arith in
-      p (k * n + n + i) 0 (omega arith) (omega arith) ∙ ap (λ (z : ℕ). get_or xs z 0) f)
+-- the layer after k, written in the second of two parts
+pub joined_parts : (ls olds news : List Layer) (k : ℕ) (l : Layer) → ls ≡ olds ++ news → length olds ≡ k + 1 → olds ++ set news 0 l ≡ set ls (k + 1) l
+joined_parts ls olds news k l parts long =
+    ap (λ (i : ℕ). olds ++ set news i l) (let z : 0 ≡ k + 1 - (k + 1) = omega arith in z)
+    ∙ sym (set-append_right olds news (k + 1) (k + 1) l long (omega arith)) ∙ ap (λ (ms : List Layer). set ms (k + 1) l) (sym parts)
 
-  pub uncopied_layer : ((j d : ℕ) → j < k * n + n → get_or zs j d ≡ get_or xs j d) → Below n k xs zs
-  uncopied_layer p j le =
-      let r : j * n + n ≤ k * n + n = below_room n j k le in
-      part_ext n (j * n) (j * n) zs xs (omega arith) (omega arith) (λ i li. p (j * n + i) 0 (omega arith))
-
-pub part_long : (n k : ℕ) (xs : List ℕ) → k * n + n + n ≤ length xs → length (take (k * n + n + n - (k * n + n)) (drop (k * n + n) xs)) ≡ n
-part_long n k xs h =
-    let e : k * n + n + n - (k * n + n) ≡ n = omega arith in
-    ap (λ (z : ℕ). length (take z (drop (k * n + n) xs))) e ∙ length_part n (k * n + n) xs h
+-- a list of so many values, and one more
+pub more_listed : (f : ℕ → ℕ) (xs ys : List ℕ) (n x : ℕ) → xs ≡ map f (range_with_len 0 n) → ys ≡ xs ++ (x ∷ []) → x ≡ f n
+    → ys ≡ map f (range_with_len 0 (n + 1))
+more_listed f xs ys n x old pushed e = pushed ∙ ap₂ (λ (us : List ℕ) (y : ℕ). us ++ (y ∷ [])) old e ∙ sym (map-range_with_len_more f 0 n n (omega arith))
 
 -- terms that are alone in their classes are settled where nothing stands
 head_name : (n none : ℕ) (r : Row) → r ≡ Row.name → head_alone n none r ≡ none
@@ -82,45 +73,65 @@ head_compound : (n none : ℕ) (r : Row) → Compound r → head_alone n none r 
 head_compound n none Row.name c = absurd c
 head_compound n none (Row.over s xs) c = refl
 
-pub alone_settled : (ar : List ℕ) (rs : List Row) (ts hs : List ℕ) → Sheet ar rs → length rs ≤ length ts → length rs ≤ length hs
-    → Alone (length rs) rs ts hs (length rs) → SettledAt rs [] 0 ts hs
-alone_settled ar rs ts hs sheet long wide alone =
-    let at : (xs : List ℕ) (i : ℕ) → i < length rs → get_or (layer (length rs) 0 xs) i 0 ≡ get_or xs i 0 =
-    λ xs i h. layer_read (length rs) 0 i xs h ∙ ap (λ (j : ℕ). get_or xs j 0) (let z : 0 * length rs + i ≡ i = omega arith in z) in
-    apart_settled ar rs (layer (length rs) 0 ts) (layer (length rs) 0 hs) sheet
-    (length_part (length rs) (0 * length rs) ts (omega arith)) (length_part (length rs) (0 * length rs) hs (omega arith))
-    (λ n h. at ts n h ∙ (alone n h).0)
-    (λ n h name. omega (arith, at hs n h, (alone n h).1, head_name n (length rs) (row rs n) name))
-    (λ n h compound. at hs n h ∙ (alone n h).1 ∙ head_compound n (length rs) (row rs n) compound)
+pub alone_settled : (ar : List ℕ) (rs : List Row) → Sheet ar rs → Settled rs [] (alone (length rs)) (heads_alone (length rs) rs)
+alone_settled ar rs sheet =
+    let n = length rs in
+    let head : (a : ℕ) → a < n → get_or (heads_alone n rs) a 0 ≡ head_alone a n (row rs a) =
+    λ a h. get_or-map-range_with_len (λ (m : ℕ). head_alone m n (row rs m)) 0 n a a 0 h (omega arith) in
+    apart_settled ar rs (alone n) (heads_alone n rs) sheet
+    (length-map-range_with_len (λ (m : ℕ). m) 0 n) (length-map-range_with_len (λ (m : ℕ). head_alone m n (row rs m)) 0 n)
+    (λ a h. get_or-map-range_with_len (λ (m : ℕ). m) 0 n a a 0 h (omega arith))
+    (λ a h name. omega (arith, head a h, head_name a n (row rs a) name))
+    (λ a h compound. head a h ∙ head_compound a n (row rs a) compound)
 
-module _ (rs : List Row) (es : List Equation) (ts hs : List ℕ) where
+-- layers that are all made alike, and one more
+pub push_alike : (f : Layer → List ℕ) (ls ms : List Layer) (l : Layer) (n : ℕ) (xs : List ℕ) → length ls ≡ n → ms ≡ ls ++ (l ∷ [])
+    → ((k : ℕ) → k < n → get_or (map f ls) k [] ≡ xs) → f l ≡ xs → (k : ℕ) → k < n + 1 → get_or (map f ms) k [] ≡ xs
+push_alike f ls ms l n xs count grown old new k h =
+    get_or-map f ms k l [] (omega (arith, ap length grown, length-append ls (l ∷ [])))
+    ∙ elim (cases_eq k n) [
+      | inl same ↦ ap f (ap (λ (ns : List Layer). get_or ns k l) grown ∙ get_or_push ls l l k (omega arith)) ∙ new
+      | inr other ↦
+          ap f (ap (λ (ns : List Layer). get_or ns k l) grown ∙ get_or_append_left ls (l ∷ []) l k (omega arith))
+          ∙ sym (get_or-map f ls k l [] (omega arith)) ∙ old k (omega arith)
+    ]
+
+-- of two parts that layers are split into, the last of the first and the first of the second
+pub front_read : (ls olds : List Layer) (k : ℕ) (l : Layer) → olds ≡ take (k + 1) ls → l ≡ get_or olds k l → l ≡ get_or ls k l
+front_read ls olds k l front read = read ∙ ap (λ (os : List Layer). get_or os k l) front ∙ get_or-take (k + 1) ls k l (omega arith)
+
+pub back_read : (ls news : List Layer) (k : ℕ) (l : Layer) → news ≡ drop (k + 1) ls → l ≡ get_or news 0 l → l ≡ get_or ls (k + 1) l
+back_read ls news k l back read =
+    read ∙ ap (λ (ns : List Layer). get_or ns 0 l) back ∙ get_or-drop (k + 1) ls 0 l ∙ ap (λ (i : ℕ). get_or ls i l) (let z : k + 1 + 0 ≡ k + 1 = omega arith in z)
+
+module _ (rs : List Row) (es : List Equation) (ls : List Layer) where
   -- with nothing standing
-  pub layers_first : es ≡ [] → SettledAt rs [] 0 ts hs → Layered rs es ts hs
-  layers_first none x = subst (λ (fs : List Equation). Layered rs fs ts hs) (sym none) alone
+  pub layers_first : es ≡ [] → SettledAt rs [] 0 ls → Layered rs es ls
+  layers_first none x = subst (λ (fs : List Equation). Layered rs fs ls) (sym none) first
     where
-      alone : Layered rs [] ts hs
-      alone zero h = x
-      alone (suc k) h = absurd (omega arith)
+      first : Layered rs [] ls
+      first zero h = x
+      first (suc k) h = absurd (omega arith)
 
-  -- with tables that are as they were up to the newest
-  pub layers_kept : (us ks : List ℕ) → Below (length rs) (length es) ts us → Below (length rs) (length es) hs ks → Layered rs es ts hs → Layered rs es us ks
-  layers_kept us ks tables heads layers k h =
-      subst₂ (λ (xs ys : List ℕ). Settled rs (take k es) xs ys) (sym (tables k h)) (sym (heads k h)) (layers k h)
+  -- with another layer after the newest
+  pub layers_kept : (l : Layer) → Layered rs es ls → Layered rs es (set ls (length es + 1) l)
+  layers_kept l layers k h =
+      subst₂ (λ (xs ys : List ℕ). Settled rs (take k es) xs ys) (sym (table_other ls (length es + 1) l k (omega arith))) (sym (heads_other ls (length es + 1) l k (omega arith))) (layers k h)
 
   up_to : (e : Equation) (k : ℕ) → k ≤ length (es ++ (e ∷ [])) → (k ≤ length es) ⊎ (k ≡ length es + 1)
   up_to e k h = grind (arith, length-append es (e ∷ []))
 
   -- with one equation more, and the layer for it
-  pub layers_push : (e : Equation) → SettledAt rs (es ++ (e ∷ [])) (length es + 1) ts hs → Layered rs es ts hs → Layered rs (es ++ (e ∷ [])) ts hs
+  pub layers_push : (e : Equation) → SettledAt rs (es ++ (e ∷ [])) (length es + 1) ls → Layered rs es ls → Layered rs (es ++ (e ∷ [])) ls
   layers_push e x layers k h =
       elim (up_to e k h) [
-        | inl old ↦ subst (λ (fs : List Equation). SettledAt rs fs k ts hs) (sym (take-append-le k es (e ∷ []) old)) (layers k old)
+        | inl old ↦ subst (λ (fs : List Equation). SettledAt rs fs k ls) (sym (take-append-le k es (e ∷ []) old)) (layers k old)
         | inr new ↦
-            subst₂ (λ (fs : List Equation) (j : ℕ). SettledAt rs fs j ts hs)
+            subst₂ (λ (fs : List Equation) (j : ℕ). SettledAt rs fs j ls)
             (sym (take_all k (es ++ (e ∷ [])) (omega (arith, length-append es (e ∷ []))))) (sym new) x
       ]
 
   -- with the oldest n equations
-  pub layers_back : (n : ℕ) → Layered rs es ts hs → Layered rs (take n es) ts hs
+  pub layers_back : (n : ℕ) → Layered rs es ls → Layered rs (take n es) ls
   layers_back n layers k h =
-      subst (λ (fs : List Equation). SettledAt rs fs k ts hs) (sym (take-take k n es (omega (arith, length-take n es)))) (layers k (omega (arith, length-take n es)))
+      subst (λ (fs : List Equation). SettledAt rs fs k ls) (sym (take-take k n es (omega (arith, length-take n es)))) (layers k (omega (arith, length-take n es)))

@@ -6,3 +6,6 @@ pub mod Written
 pub mod Layering
 pub mod Preparing
 pub mod Tells
+pub mod Counted
+pub mod Climbing
+pub mod Uniting

@@ -8,8 +8,8 @@ use Rattle.sheet.specs.declared.rows.Compound.{Compound}
 use Rattle.trees.specs.Terms.{rows}
 
 -- a term that is read has the row of its number
-pub row_read : (ts : List Term) (a : ℕ) (t : Term) → a < length ts → t ≡ get_or ts a t → row (rows ts) a ≡ shape t
-row_read ts a t h read = get_or-map shape ts a t Row.name h ∙ ap shape (sym read)
+pub row_read : (ts : List Term) (a : ℕ) (d t : Term) → a < length ts → get_or ts a d ≡ t → row (rows ts) a ≡ shape t
+row_read ts a d t h read = get_or-map shape ts a d Row.name h ∙ ap shape read
 
 -- a compound term's places have its row's arguments
 pub place_read : (r : Row) (c : Compound) (i : ℕ) → r ≡ Row.over c.symbol (take c.arity c.arguments) → i < length (arguments r)

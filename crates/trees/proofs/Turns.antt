@@ -1,6 +1,6 @@
 -- The turns of a visit, one by one. Assumes nothing.
-use Rattle.std.proofs.Common.{◌≡◌, ℕ, ◌+◌, ◌-◌, ◌<◌, ◌≤◌, Bool, true, false, List, [], ◌∷◌, ◌++◌, map, length, get_or, take, set, sym, refl, ap, ◌∙◌, subst, inl, inr, arith, length-append, length-take, get_or-take}
-use Rattle.std.proofs.lemmas.List.{get_or-map, get_or_append_left, get_or_push, length-map, ext_get_or}
+use Rattle.std.proofs.Common.{◌≡◌, ℕ, ◌+◌, ◌-◌, ◌<◌, ◌≤◌, Bool, true, false, List, [], map, length, get_or, take, set, sym, refl, ap, ◌∙◌, subst, inl, inr, arith, length-take, get_or-take}
+use Rattle.std.proofs.lemmas.List.{get_or-map, length-map, ext_get_or}
 use Rattle.std.proofs.lemmas.Bool.{cases_eq}
 use Rattle.logic.specs.Trees.{Tree}
 use Rattle.terms.specs.Sheets.{Row, row, arguments, Compound as IsCompound, Sheet, Writable}
@@ -13,40 +13,11 @@ use Rattle.unify.specs.Settling.{number_of, AllVisited}
 use Rattle.unify.proofs.Lists.{never, over_of}
 use Rattle.unify.proofs.Merges.{never_false}
 use Rattle.unify.proofs.Visits.{mark_other, begun_fresh, unseen_less, unseen_within, start_visited, onward_refl, onward_trans, begin_visited, finish_onward, finish_numbered, size_argument}
-use Rattle.sheet.specs.Rows.{Stands}
 use Rattle.sheet.specs.declared.rows.Term.{Term}
 use Rattle.sheet.specs.declared.rows.Compound.{Compound}
-use Rattle.trees.specs.Terms.{Terms, rows, arguments_of}
+use Rattle.trees.specs.Terms.{Orderly, rows, arguments_of}
 use Rattle.trees.specs.Places.{Placed, Visiting, Writing, Reached}
 use Rattle.trees.proofs.Ways.{argument_term}
-
--- a class is written down as a new row, or as an old one
-pub new_placed : (ms : List Mark) (P S : List Row) (c n : ℕ) (r : Row) → n ≡ length P → S ≡ P ++ (r ∷ []) → Placed ms P (set ms c (Mark.Done n)) S c r
-new_placed ms P S c n r last grown =
-    let long : length S ≡ length P + 1 = omega (arith, ap length grown, length-append P (r ∷ [])) in
-    record {
-      k = n;
-      marked = refl;
-      within = omega arith;
-      is = ap (λ (T : List Row). row T n) grown ∙ get_or_push P r Row.name n (sym last);
-      rows = λ j h. ap (λ (T : List Row). row T j) grown ∙ get_or_append_left P (r ∷ []) Row.name j h;
-      more = omega arith;
-      one = omega arith;
-      new = λ e. omega arith;
-    }
-
-pub old_placed : (ms : List Mark) (P S : List Row) (c n s : ℕ) (xs : List ℕ) → Stands P (Row.over s xs) n → S ≡ P → Placed ms P (set ms c (Mark.Done n)) S c (Row.over s xs)
-old_placed ms P S c n s xs stands same =
-    record {
-      k = n;
-      marked = refl;
-      within = omega (arith, ap length same, stands.0);
-      is = ap (λ (T : List Row). row T n) same ∙ stands.1;
-      rows = λ j h. ap (λ (T : List Row). row T j) same;
-      more = omega (arith, ap length same);
-      one = omega (arith, ap length same);
-      new = λ e. let z : ◌≡◌ {A = ℕ} 0 1 = cc in absurd (omega arith);
-    }
 
 -- the numbers of a compound term's arguments, cut to its arity
 pub numbers_list : (c : Compound) (ns : List ℕ) (g : ℕ → ℕ) → length ns ≡ 8 → ((i : ℕ) → i < c.arity → get_or ns i 0 ≡ g (get_or c.arguments i 0))
@@ -265,7 +236,7 @@ module _ (ts : List Term) (cs hs : List ℕ) (ms : List Mark) (ar : List ℕ) (Q
 
 -- every class in turn
 module _ (ts : List Term) (cs hs : List ℕ) where
-  pub reached_start : Terms ts → Lowest (length (rows ts)) cs → Tops (rows ts) (class cs) hs → length hs ≡ length (rows ts)
+  pub reached_start : Orderly ts → Lowest (length (rows ts)) cs → Tops (rows ts) (class cs) hs → length hs ≡ length (rows ts)
       → (ms : List Mark) (ar br : List ℕ) (Q : List Row) → Sheet ar (rows ts) → br ≡ ar → Q ≡ [] → length ms ≡ length (rows ts)
       → ((c : ℕ) → c < length ms → mark ms c ≡ Mark.Unseen) → Reached ts cs hs ms br Q 0
   reached_start terms lowest tops long ms ar br Q sheet same empty wide clean =

@@ -1,19 +1,26 @@
 -- What each way through a merge answers. Assumes nothing.
-use Rattle.std.proofs.Common.{◌≡◌, ℕ, ◌+◌, ◌<◌, ◌≤◌, min, max, Bool, true, false, List, length, get_or, set, sym, ap, ◌∙◌, subst, arith}
+use Rattle.std.proofs.Common.{◌≡◌, ℕ, ◌+◌, ◌<◌, ◌≤◌, min, max, Bool, true, false, List, length, get_or, set, sym, refl, ap, ◌∙◌, subst, subst₂, arith}
+use Rattle.logic.specs.Trees.{Tree}
 use Rattle.terms.specs.Sheets.{row, Compound}
 use Rattle.unify.specs.Parents.{Parents, Rooted, roots}
 use Rattle.unify.specs.Merging.{Tops, Answer, Agree, alike, joined, Joining}
 use Rattle.unify.proofs.Joins.{join_parents, join_fewer, join_rooted, join_tops, lower_less, of_both, found_joining}
 use Rattle.unify.proofs.Merges.{answer_same, arguments_none, arguments_clash, arguments_next, terms_alone, terms_clash, terms_next}
 use Rattle.sheet.specs.declared.rows.Term.{Term}
-use Rattle.trees.specs.Terms.{rows, arguments_of, Terms}
+use Rattle.trees.specs.Terms.{rows, arguments_of, Orderly}
 use Rattle.trees.specs.Merges.{Found, Merges}
 
 -- an argument is a term
-pub argument_term : (ts : List Term) → Terms ts → (x i : ℕ) → x < length (rows ts) → i < length (arguments_of ts x) → get_or (arguments_of ts x) i 0 < length (rows ts)
+pub argument_term : (ts : List Term) → Orderly ts → (x i : ℕ) → x < length (rows ts) → i < length (arguments_of ts x) → get_or (arguments_of ts x) i 0 < length (rows ts)
 argument_term ts terms x i lx l = omega (arith, terms.many, terms.lower x i (omega (arith, terms.many)) l)
 
-module _ (ts : List Term) (terms : Terms ts) (ps hs : List ℕ) where
+-- the same merge of lists that are named otherwise
+pub merge_along : (ts : List Term) (ps hs js qs os ks vs : List ℕ) (met : (ℕ → ℕ) → Type 0) (agrees : (ℕ → Tree) → Type 0) (r : Bool)
+    → hs ≡ js → os ≡ qs → vs ≡ ks → Merges ts ps hs qs ks met agrees r → Merges ts ps js os vs met agrees r
+merge_along ts ps hs js qs os ks vs met agrees r e f g merge =
+    subst (λ (xs : List ℕ). Merges ts ps xs os vs met agrees r) e (subst₂ (λ (xs ys : List ℕ). Merges ts ps hs xs ys met agrees r) (sym f) (sym g) merge)
+
+module _ (ts : List Term) (terms : Orderly ts) (ps hs : List ℕ) where
   -- the parents ps of as many terms as there are rows
   over : (qs : List ℕ) (f : ℕ → ℕ) → Rooted (length ts) qs f → Rooted (length (rows ts)) qs f
   over qs f rooted = subst (λ (n : ℕ). Rooted n qs f) (sym terms.many) rooted
@@ -168,22 +175,22 @@ module _ (ts : List Term) (terms : Terms ts) (ps hs : List ℕ) where
         record { parents = parents; fewer = omega arith; answer = λ f rooted tops. arguments_none (rows ts) f ps hs xs ys place past rooted tops }
 
     module _ (x y : ℕ) (left : x ≡ get_or xs place 0) (right : y ≡ get_or ys place 0) (within : place < length xs) (os ks : List ℕ) where
-      pub merge_clash : (p : Bool) → Merges ts ps hs os ks (λ f. f x ≡ f y) (λ v. v x ≡ v y) p → p ≡ false → Merges ts ps hs os ks (Agree xs ys place) (Agree xs ys place) false
-      merge_clash p merge fails =
+      pub merge_clash : Merges ts ps hs os ks (λ f. f x ≡ f y) (λ v. v x ≡ v y) false → Merges ts ps hs os ks (Agree xs ys place) (Agree xs ys place) false
+      merge_clash merge =
           record {
             parents = merge.parents;
             fewer = merge.fewer;
-            answer = λ f rooted tops. arguments_clash (rows ts) f os ks os ks xs ys x y place p left right within (merge.answer f rooted tops) fails;
+            answer = λ f rooted tops. arguments_clash (rows ts) f os ks os ks xs ys x y place false left right within (merge.answer f rooted tops) refl;
           }
 
-      pub merge_next : (p : Bool) → Merges ts ps hs os ks (λ f. f x ≡ f y) (λ v. v x ≡ v y) p → p ≡ true → x < length ts → y < length ts → (qs ms : List ℕ) (r : Bool)
+      pub merge_next : Merges ts ps hs os ks (λ f. f x ≡ f y) (λ v. v x ≡ v y) true → x < length ts → y < length ts → (qs ms : List ℕ) (r : Bool)
           → Merges ts os ks qs ms (Agree xs ys (place + 1)) (Agree xs ys (place + 1)) r → Merges ts ps hs qs ms (Agree xs ys place) (Agree xs ys place) r
-      merge_next p merge holds lx ly qs ms r rest =
+      merge_next merge lx ly qs ms r rest =
           record {
             parents = rest.parents;
             fewer = omega (arith, merge.fewer, rest.fewer);
             answer = λ f rooted tops.
-                let first = (merge.answer f rooted tops).brought holds in
+                let first = (merge.answer f rooted tops).brought refl in
                 arguments_next (rows ts) f qs ms xs ys x y place r left right within (omega (arith, terms.many)) (omega (arith, terms.many)) os ks first
                 (rest.answer first.g first.rooted first.tops);
           }

@@ -11,10 +11,9 @@ use Rattle.sheet.specs.Models.{arities_of, rows_of, Read}
 use Rattle.sheet.specs.declared.rows.Term.{Term}
 use Rattle.sheet.specs.declared.writing.OpenSheet.{OpenSheet}
 use Rattle.sheet.proofs.Sheets.{sheet_plain}
-use Rattle.trees.specs.Terms.{Terms, rows}
-use Rattle.trees.specs.Works.{Workable}
+use Rattle.trees.specs.Terms.{Orderly, rows}
 use Rattle.trees.specs.Layers.{Ready}
-use Rattle.trees.specs.declared.workspace.Workspace.{Workspace}
+use Rattle.trees.specs.declared.visits.Visits.{Visits}
 
 module _ (s : OpenSheet) (ts : List Term) (read : Read s ts) where
   pub many : length ts ≡ length (rows_of s)
@@ -23,25 +22,19 @@ module _ (s : OpenSheet) (ts : List Term) (read : Read s ts) where
   pub few : length ts ≤ 1024
   few = omega (arith, many, read.sheet.few)
 
-  pub terms_read : Terms ts
+  pub terms_read : Orderly ts
   terms_read =
       let sheet : Sheet (arities_of s) (rows ts) = subst (λ (rs : List Row). Sheet (arities_of s) rs) (sym read.rows) read.sheet in
       record { few = few; many = length-map ts shape; lower = λ a i h l. arguments_lower (arities_of s) (rows ts) sheet a i (omega (arith, length-map ts shape)) l }
 
-  -- a workspace that is ready for the sheet is one for its terms
-  pub ready_workable : (w : Workspace) → ∥ Ready (rows_of s) w ∥₁ → Workable ts w
-  ready_workable w ready =
-      record {
-        marks = ∥∥₁_elim ready (hedberg ℕ_discrete (vec_len w.marks) (length (rows_of s))) (λ r. r.marks) ∙ sym many;
-        lowest = ∥∥₁_elim ready (hedberg ℕ_discrete (vec_len w.lowest) (length (rows_of s))) (λ r. r.lowest) ∙ sym many;
-        sheet = subst (λ (rs : List Row). Sheet (arities_of w.order) rs) (sym read.rows)
-            (sheet_plain (arities_of w.order) (rows_of s) (∥∥₁_map ready (λ r. r.sheet)));
-      }
+  -- a workspace that is ready for the sheet is ready for its terms
+  pub ready_terms : (v : Visits) → ∥ Ready (rows_of s) v ∥₁ → Ready (rows ts) v
+  ready_terms v ready =
+      subst (λ (rs : List Row). Ready rs v) (sym read.rows)
+      (record {
+        marks = ∥∥₁_elim ready (hedberg ℕ_discrete (vec_len v.marks) (length (rows_of s))) (λ r. r.marks);
+        sheet = sheet_plain (arities_of v.order) (rows_of s) (∥∥₁_map ready (λ r. r.sheet));
+      })
 
-  pub workable_ready : (w : Workspace) → Workable ts w → Ready (rows_of s) w
-  workable_ready w x =
-      record {
-        marks = x.marks ∙ many;
-        lowest = x.lowest ∙ many;
-        sheet = subst (λ (rs : List Row). Sheet (arities_of w.order) rs) read.rows x.sheet;
-      }
+  pub ready_sheet : (v : Visits) → Ready (rows ts) v → Ready (rows_of s) v
+  ready_sheet v = subst (λ (rs : List Row). Ready rs v) read.rows

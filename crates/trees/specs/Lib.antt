@@ -3,6 +3,5 @@ pub mod Merges
 pub mod Flats
 pub mod Places
 pub mod Lowers
-pub mod Works
 pub mod Layers
 pub mod Models

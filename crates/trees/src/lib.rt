@@ -1,6 +1,6 @@
 // The logic of trees on a sheet of terms: the equation (a, b) says that the terms a and b have one value. `History` has the
-// standing equations with the classes of forced-equal terms, and `Layers` are these for each number of equations. `settling`
-// brings the two sides of one equation more together, and `telling` reads what is told of a name.
+// standing equations, and for each number of them a `Layer`: the classes of forced-equal terms. `merging`, `visiting` and
+// `settling` bring the two sides of one equation more together, and `telling` reads what is told of a name.
 
 #![tactic(auto)]
 
@@ -16,17 +16,19 @@ use logic::{Assumed, Equation, Kind, Logic, ROOM, Refusal, TellingLogic};
 use sheet::{OpenSheet, Term};
 use std::alloc::{AllocError, Global};
 
+mod clash;
 mod history;
-mod layers;
+mod layer;
 mod merging;
 mod reading;
 mod settling;
 mod standing;
 mod telling;
+mod term_list;
 #[cfg(test)]
 mod tests;
 mod visiting;
-mod workspace;
+mod visits;
 
 #[derive(Drop)]
 pub struct Trees {
@@ -93,7 +95,7 @@ impl Logic for Trees {
         if self.standing() == ROOM {
             return Err(Refusal::Full);
         }
-        if !self.history.assume(e) {
+        if self.history.assume(e).is_err() {
             return Ok(Assumed::Clash);
         }
         Ok(Assumed::Taken)

@@ -1,180 +1,110 @@
 // Bringing two terms together: unification on classes of terms. A class is a tree of parents, with the term that stands for
 // it on top; `heads` has a compound term of each class at that term.
 
-ghost use Rattle.std.specs.Prelude.{◌≡◌, ℕ, ◌<◌, ◌≤◌, min, max, true, false, length, slice_index, slice_set};
+ghost use Rattle.std.specs.Prelude.{◌≡◌, ℕ, ◌<◌, ◌≤◌, min, max, length, OnOk, OnErr, vec_len, slice_index, slice_set};
 ghost use Rattle.unify.specs.Parents.{Parents, Rooted};
-ghost use Rattle.unify.specs.Merging.{Agree, alike as similar};
+ghost use Rattle.unify.specs.Merging.{Agree};
 ghost use Rattle.unify.specs.Settling.{Tabled, Unified, Refuted};
 ghost use Rattle.classes.specs.Classes.{class};
-ghost use Rattle.terms.specs.Sheets.{row};
-ghost use Rattle.trees.specs.Terms.{Terms, rows, arguments_of, Reads};
-ghost use Rattle.trees.specs.Merges.{Found, Merges};
+ghost use Rattle.trees.specs.Terms.{rows, arguments_of};
+ghost use Rattle.trees.specs.Merges.{Finds, Unites};
 
-use sheet::{Compound, Term};
+use crate::clash::Clash;
+use crate::layer::Layer;
+use crate::term_list::Terms;
 
-// The term that stands for the class of a term. The terms on the way there are moved up.
-fn find(parents: &mut [u16], term: u16) -> u16
-    requires parents { Parents (length parents.old) parents.old }
-    requires term { term < length parents.old }
-    ensures { Found (length parents.old) parents.old parents.new term result }
-{
-    let mut at = term;
-    while parents[at as usize] != at {
-        let up = parents[parents[at as usize] as usize];
-        parents[at as usize] = up;
-        at = up;
+impl Layer {
+    // Brings two terms together.
+    pub(crate) fn unify(&mut self, terms: Terms, left: u16, right: u16) -> Result<(), Clash>
+        requires tabled { Tabled (rows terms.list.now) self.old.table.items self.old.heads.items }
+        requires sides { (left < length terms.list.now) × (right < length terms.list.now) }
+        ensures long { vec_len self.new.table ≡ vec_len self.old.table }
+        ensures yes { OnOk result (Unified (rows terms.entry.list.now) (class self.old.table.items) left right self.new.table.items self.new.heads.items) }
+        ensures no { OnErr result (Refuted (rows terms.entry.list.now) (class self.old.table.items) left right) }
+    {
+        self.merge_terms(terms, left, right)?;
+        self.flatten();
+        Ok(())
     }
-    at
-}
 
-// Makes one class of two, of which x and y stand on top: the higher of them goes under the lower.
-fn join(parents: &mut [u16], heads: &mut [u16], x: u16, y: u16)
-    requires parents { (x < length parents.old) × (y < length parents.old) }
-    requires heads { length heads.old ≡ length parents.old }
-    ensures parents { parents.new ≡ slice_set parents.old (max x y) (min x y) }
-    ensures heads { heads.new ≡ slice_set heads.old (min x y) (min (slice_index heads.old (min x y)) (slice_index heads.old (max x y))) }
-{
-    let low = x.min(y);
-    let high = x.max(y);
-    heads[low as usize] = heads[low as usize].min(heads[high as usize]);
-    parents[high as usize] = low;
-}
+    // Brings two terms of a forest of parents together.
+    #[cycle(merge_arguments_merge_terms)]
+    fn merge_terms(&mut self, terms: Terms, a: u16, b: u16) -> Result<(), Clash>
+        requires parents { Parents (length terms.list.now) self.old.table.items }
+        requires sides { (a < length terms.list.now) × (b < length terms.list.now) }
+        ensures { Unites terms.entry.list.now self.old self.new (λ f. f a ≡ f b) (λ v. v a ≡ v b) result }
+    {
+        let x = self.find(a);
+        let y = self.find(b);
+        if x == y {
+            return Ok(());
+        }
+        let first = self.heads[x as usize];
+        let second = self.heads[y as usize];
+        self.join(x, y);
+        if first >= terms.len() || second >= terms.len() {
+            return Ok(());
+        }
+        if !terms.alike(first, second) {
+            return Err(Clash);
+        }
+        self.merge_arguments(terms, first, second, 0)
+    }
 
-// The compound term of that number, if it is one.
-pub(crate) fn compound(terms: &[Term], a: u16) -> Option<Compound>
-    requires { a < length terms.now }
-    ensures { Reads (row (rows terms.now) a) result }
-{
-    let term = &terms[a as usize];
-    match *term {
-        Term::Name => None,
-        Term::Over(compound) => Some(compound),
+    // Brings the arguments of two compound terms together, from a place on.
+    #[cycle(merge_arguments_merge_terms)]
+    fn merge_arguments(&mut self, terms: Terms, a: u16, b: u16, place: usize) -> Result<(), Clash>
+        requires parents { Parents (length terms.list.now) self.old.table.items }
+        requires sides { (a < length terms.list.now) × (b < length terms.list.now) }
+        requires same { length (arguments_of terms.list.now b) ≡ length (arguments_of terms.list.now a) }
+        requires place { place ≤ length (arguments_of terms.list.now a) }
+        ensures { Unites terms.entry.list.now self.old self.new (Agree (arguments_of terms.entry.list.now a) (arguments_of terms.entry.list.now b) place) (Agree (arguments_of terms.entry.list.now a) (arguments_of terms.entry.list.now b) place) result }
+    {
+        if place == terms.arity(a) {
+            return Ok(());
+        }
+        let x = terms.argument(a, place);
+        let y = terms.argument(b, place);
+        self.merge_terms(terms, x, y)?;
+        self.merge_arguments(terms, a, b, place + 1)
     }
-}
 
-// Whether two compound terms have one symbol over as many arguments.
-fn alike(terms: &[Term], a: u16, b: u16) -> bool
-    requires { (a < length terms.now) × (b < length terms.now) }
-    ensures { result ≡ similar (row (rows terms.now) a) (row (rows terms.now) b) }
-{
-    let Some(first) = compound(terms, a) else {
-        return false;
-    };
-    let Some(second) = compound(terms, b) else {
-        return false;
-    };
-    first.symbol == second.symbol && first.arity == second.arity
-}
+    // The term that stands for the class of a term. The terms on the way there are moved up.
+    fn find(&mut self, term: u16) -> u16
+        requires parents { Parents (length self.old.table.items) self.old.table.items }
+        requires term { term < length self.old.table.items }
+        ensures { Finds self.old self.new term result }
+    {
+        let mut at = term;
+        while self.table[at as usize] != at {
+            let up = self.table[self.table[at as usize] as usize];
+            self.table[at as usize] = up;
+            at = up;
+        }
+        at
+    }
 
-// How many arguments a term has.
-pub(crate) fn arity(terms: &[Term], a: u16) -> usize
-    requires { a < length terms.now }
-    ensures count { result ≡ length (arguments_of terms.now a) }
-    ensures small { result ≤ 8 }
-{
-    match compound(terms, a) {
-        None => 0,
-        Some(compound) => compound.arity as usize,
+    // Makes one class of two, of which x and y stand on top: the higher of them goes under the lower.
+    fn join(&mut self, x: u16, y: u16)
+        requires { (x < vec_len self.old.table) × (y < vec_len self.old.table) }
+        ensures parents { self.new.table.items ≡ slice_set self.old.table.items (max x y) (min x y) }
+        ensures heads { self.new.heads.items ≡ slice_set self.old.heads.items (min x y) (min (slice_index self.old.heads.items (min x y)) (slice_index self.old.heads.items (max x y))) }
+    {
+        let low = x.min(y);
+        let high = x.max(y);
+        self.heads[low as usize] = self.heads[low as usize].min(self.heads[high as usize]);
+        self.table[high as usize] = low;
     }
-}
 
-// One of a term's arguments.
-pub(crate) fn argument(terms: &[Term], a: u16, place: usize) -> u16
-    requires term { a < length terms.now }
-    requires place { place < length (arguments_of terms.now a) }
-    ensures { result ≡ slice_index (arguments_of terms.now a) place }
-{
-    match compound(terms, a) {
-        None => 0,
-        Some(compound) => compound.arguments[place],
+    // Puts each term right under the one that stands for its class.
+    fn flatten(&mut self)
+        requires { Parents (length self.old.table.items) self.old.table.items }
+        ensures flat { (f : ℕ → ℕ) → Rooted (length self.old.table.items) self.old.table.items f → (a : ℕ) → a < length self.old.table.items → class self.new.table.items a ≡ f a }
+        ensures long { length self.new.table.items ≡ length self.old.table.items }
+        ensures heads { self.new.heads.items ≡ self.old.heads.items }
+    {
+        for a in 0..self.table.len() {
+            self.table[a] = self.table[self.table[a] as usize];
+        }
     }
-}
-
-// Brings two terms together, or says that no trees make them one.
-#[cycle(merge_arguments_merge_terms)]
-fn merge_terms(terms: &[Term], parents: &mut [u16], heads: &mut [u16], a: u16, b: u16) -> bool
-    requires terms { Terms terms.now }
-    requires parents { Parents (length terms.now) parents.old }
-    requires heads { length heads.old ≡ length terms.now }
-    requires sides { (a < length terms.now) × (b < length terms.now) }
-    ensures { Merges terms.now parents.old heads.old parents.new heads.new (λ f. f a ≡ f b) (λ v. v a ≡ v b) result }
-{
-    let x = find(parents, a);
-    let y = find(parents, b);
-    if x == y {
-        return true;
-    }
-    let first = heads[x as usize];
-    let second = heads[y as usize];
-    join(parents, heads, x, y);
-    if first as usize >= terms.len() {
-        return true;
-    }
-    if second as usize >= terms.len() {
-        return true;
-    }
-    if !alike(terms, first, second) {
-        return false;
-    }
-    merge_arguments(terms, parents, heads, first, second, 0)
-}
-
-// Brings the arguments of two compound terms together, from a place on.
-#[cycle(merge_arguments_merge_terms)]
-fn merge_arguments(
-    terms: &[Term],
-    parents: &mut [u16],
-    heads: &mut [u16],
-    a: u16,
-    b: u16,
-    place: usize,
-) -> bool
-    requires terms { Terms terms.now }
-    requires parents { Parents (length terms.now) parents.old }
-    requires heads { length heads.old ≡ length terms.now }
-    requires sides { (a < length terms.now) × (b < length terms.now) }
-    requires same { length (arguments_of terms.now b) ≡ length (arguments_of terms.now a) }
-    requires place { place ≤ length (arguments_of terms.now a) }
-    ensures { Merges terms.now parents.old heads.old parents.new heads.new (Agree (arguments_of terms.now a) (arguments_of terms.now b) place) (Agree (arguments_of terms.now a) (arguments_of terms.now b) place) result }
-{
-    if place == arity(terms, a) {
-        return true;
-    }
-    let x = argument(terms, a, place);
-    let y = argument(terms, b, place);
-    if !merge_terms(terms, parents, heads, x, y) {
-        return false;
-    }
-    merge_arguments(terms, parents, heads, a, b, place + 1)
-}
-
-// Puts each term right under the one that stands for its class.
-fn flatten(parents: &mut [u16])
-    requires { Parents (length parents.old) parents.old }
-    ensures { (f : ℕ → ℕ) → Rooted (length parents.old) parents.old f → (a : ℕ) → a < length parents.old → class parents.new a ≡ f a }
-{
-    for a in 0..parents.len() {
-        parents[a] = parents[parents[a] as usize];
-    }
-}
-
-// Brings two terms of a table of classes together, in place, or says that no trees make them one.
-pub(crate) fn unify(
-    terms: &[Term],
-    table: &mut [u16],
-    heads: &mut [u16],
-    left: u16,
-    right: u16,
-) -> bool
-    requires terms { Terms terms.now }
-    requires tabled { Tabled (rows terms.now) table.old heads.old }
-    requires sides { (left < length terms.now) × (right < length terms.now) }
-    ensures yes { result ≡ true → Unified (rows terms.now) (class table.old) left right table.new heads.new }
-    ensures no { result ≡ false → Refuted (rows terms.now) (class table.old) left right }
-{
-    if !merge_terms(terms, table, heads, left, right) {
-        return false;
-    }
-    flatten(table);
-    true
 }

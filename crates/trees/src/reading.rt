@@ -8,7 +8,8 @@ ghost use Rattle.sheet.specs.Models.{Read};
 ghost use Rattle.trees.specs.Models.{arities_in, rows_in, stands_in, table_in, heads_in};
 
 use crate::history::History;
-use crate::telling::{is_name, told_by};
+use crate::layer::Layer;
+use crate::term_list::Terms;
 use logic::Kind;
 use sheet::Term;
 
@@ -32,7 +33,7 @@ impl History {
         ensures count { result ≡ length (rows_in self.now) }
         ensures few { result ≤ 1024 }
     {
-        self.sheet.terms().len() as u16
+        Terms::of(&self.sheet).len()
     }
 
     // How many equations stand.
@@ -43,20 +44,12 @@ impl History {
         self.standing.len()
     }
 
-    // The lowest member of each term's class.
-    fn table(&self) -> &[u16]
-        ensures { result.now ≡ table_in self.now }
+    // The classes of terms that they force equal.
+    fn top(&self) -> &Layer
+        ensures table { result.now.table.items ≡ table_in self.now }
+        ensures heads { result.now.heads.items ≡ heads_in self.now }
     {
-        self.layers
-            .table(self.count() as usize, self.standing.len())
-    }
-
-    // The lowest compound term of each class.
-    fn heads(&self) -> &[u16]
-        ensures { result.now ≡ heads_in self.now }
-    {
-        self.layers
-            .heads(self.count() as usize, self.standing.len())
+        &self.layers[self.standing.len()]
     }
 
     // Whether two terms are forced equal.
@@ -64,7 +57,7 @@ impl History {
         requires { (a < length (rows_in self.now)) × (b < length (rows_in self.now)) }
         ensures { Decides result (ForcedEqual (arities_in self.now) (rows_in self.now) (stands_in self.now) a b) }
     {
-        let table = self.table();
+        let table = &self.top().table;
         table[a as usize] == table[b as usize]
     }
 
@@ -73,7 +66,7 @@ impl History {
         ensures yes { result ≡ true → Name (arities_in self.now) (rows_in self.now) number }
         ensures no { result ≡ false → Name (arities_in self.now) (rows_in self.now) number → ⊥ }
     {
-        is_name(self.sheet.terms(), number)
+        Terms::of(&self.sheet).is_name(number)
     }
 
     // What is told of a name.
@@ -81,6 +74,6 @@ impl History {
         requires { Name (arities_in self.now) (rows_in self.now) name }
         ensures { TreeTold (arities_in self.now) (rows_in self.now) (stands_in self.now) name (telling (kind_number result.0) result.1) }
     {
-        told_by(self.table(), self.heads(), name)
+        self.top().told(name)
     }
 }

@@ -1,133 +1,106 @@
 // The classes of forced-equal terms after one equation more.
 
-ghost use Rattle.std.specs.Prelude.{◌≡◌, ℕ, ◌<◌, ◌≤◌, true, false, List, [], ◌∷◌, ◌++◌, length, Decides, slice_index};
+ghost use Rattle.std.specs.Prelude.{◌≡◌, ℕ, ◌+◌, ◌<◌, ◌≤◌, OnOk, OnErr, List, [], ◌∷◌, ◌++◌, length, vec_len, slice_index};
 ghost use Rattle.logic.specs.declared.Equation.{Equation as Pair};
-ghost use Rattle.terms.specs.Sheets.{row, Compound as IsCompound, Sheet};
-ghost use Rattle.sheet.specs.Models.{arities_of};
 ghost use Rattle.classes.specs.Classes.{class, Heads, Settled};
 ghost use Rattle.unify.specs.Settling.{Tabled, Refuted, Lows, number_of};
 ghost use Rattle.unify.specs.Firsts.{noted};
-ghost use Rattle.trees.specs.Terms.{Terms, rows};
-ghost use Rattle.trees.specs.Works.{Workable};
+ghost use Rattle.trees.specs.Terms.{rows};
+ghost use Rattle.trees.specs.Layers.{Ready, Nexts, SettledAt, table_at, heads_at};
 
-use crate::merging::{compound, unify};
-use crate::visiting::{number, visit_all};
-use crate::workspace::Workspace;
+use crate::clash::Clash;
+use crate::layer::Layer;
+use crate::term_list::Terms;
+use crate::visits::Visits;
 use logic::Equation;
-use sheet::{OpenSheet, Term};
-use unify::Mark;
 
-// Writes a value into each entry.
-fn fill(entries: &mut [u16], value: u16)
-    ensures { (k : ℕ) → k < length entries.new → slice_index entries.new k ≡ value }
-{
-    for place in entries.iter_mut() {
-        *place = value;
+impl Layer {
+    // Brings the two sides of an equation together. After a clash the layer is of no use.
+    pub(crate) fn bring(
+        &mut self,
+        terms: Terms,
+        visits: &mut Visits,
+        e: Equation,
+    ) -> Result<(), Clash>
+        requires tabled { Tabled (rows terms.list.now) self.old.table.items self.old.heads.items }
+        requires ready { Ready (rows terms.list.now) visits.old }
+        requires sides { (e.left < length terms.list.now) × (e.right < length terms.list.now) }
+        ensures long { vec_len self.new.table ≡ vec_len self.old.table }
+        ensures ready { Ready (rows terms.entry.list.now) visits.new }
+        ensures yes { OnOk result ((es : List Pair) → Settled (rows terms.entry.list.now) es self.old.table.items self.old.heads.items → Settled (rows terms.entry.list.now) (es ++ (e ∷ [])) self.new.table.items self.new.heads.items) }
+        ensures no { OnErr result (Refuted (rows terms.entry.list.now) (class self.old.table.items) e.left e.right) }
+    {
+        self.unify(terms, e.left, e.right)?;
+        visits.visit_all(terms, self)?;
+        self.lower(visits);
+        self.find_heads(terms);
+        Ok(())
     }
-}
 
-// Notes a term at a key, unless a lower one stands there.
-fn note(entries: &mut [u16], key: u16, term: u16)
-    requires { key < length entries.old }
-    ensures { entries.new ≡ noted entries.old key term }
-{
-    if entries[key as usize] as usize >= entries.len() {
-        entries[key as usize] = term;
+    // Puts the lowest term of the same number in the place of each term's class.
+    fn lower(&mut self, visits: &mut Visits)
+        requires few { vec_len self.old.table ≤ 1024 }
+        requires many { vec_len visits.old.marks ≡ vec_len self.old.table }
+        requires classes { (a : ℕ) → a < vec_len self.old.table → slice_index self.old.table.items a < vec_len self.old.table }
+        requires numbers { (a : ℕ) → a < vec_len self.old.table → number_of self.old.table.items visits.old.marks.items a < vec_len self.old.table }
+        ensures lows { Lows (vec_len self.old.table) (number_of self.old.table.items visits.old.marks.items) self.new.table.items }
+        ensures marks { visits.new.marks ≡ visits.old.marks }
+        ensures order { visits.new.order ≡ visits.old.order }
+    {
+        visits.lowest.fill(self.table.len() as u16);
+        for a in 0..self.table.len() {
+            let number = visits.number(self.table[a]);
+            self.table[a] = visits.first(number, a as u16);
+        }
     }
-}
 
-// Puts the lowest term of the same number in the place of each term's class.
-fn lower(table: &mut [u16], marks: &[Mark], lowest: &mut [u16])
-    requires few { length table.old ≤ 1024 }
-    requires long { length lowest.old ≡ length table.old }
-    requires classes { (a : ℕ) → a < length table.old → slice_index table.old a < length marks.now }
-    requires numbers { (a : ℕ) → a < length table.old → number_of table.old marks.now a < length table.old }
-    ensures { Lows (length table.old) (number_of table.old marks.now) table.new }
-{
-    fill(lowest, table.len() as u16);
-    for a in 0..table.len() {
-        let number = number(marks, table[a]);
-        note(lowest, number, a as u16);
-        table[a] = lowest[number as usize];
+    // Finds the lowest compound term of each class.
+    fn find_heads(&mut self, terms: Terms)
+        requires long { vec_len self.old.table ≡ length terms.list.now }
+        requires classes { (a : ℕ) → a < vec_len self.old.table → slice_index self.old.table.items a < length terms.list.now }
+        ensures heads { Heads (rows terms.entry.list.now) self.old.table.items self.new.heads.items }
+        ensures table { self.new.table.items ≡ self.old.table.items }
+    {
+        self.heads.fill(terms.len());
+        for a in 0..terms.len() {
+            if terms.is_compound(a) {
+                let class = self.table[a as usize];
+                self.note_head(class, a);
+            }
+        }
     }
-}
 
-// Whether a term is compound.
-fn is_compound(terms: &[Term], a: u16) -> bool
-    requires { a < length terms.now }
-    ensures { Decides result (IsCompound (row (rows terms.now) a)) }
-{
-    compound(terms, a).is_some()
-}
-
-// Finds the lowest compound term of each class.
-fn find_heads(terms: &[Term], table: &[u16], heads: &mut [u16])
-    requires terms { Terms terms.now }
-    requires long { (length table.now ≡ length terms.now) × (length heads.old ≡ length terms.now) }
-    requires classes { (a : ℕ) → a < length table.now → slice_index table.now a < length terms.now }
-    ensures { Heads (rows terms.now) table.now heads.new }
-{
-    fill(heads, terms.len() as u16);
-    for a in 0..terms.len() {
-        if is_compound(terms, a as u16) {
-            note(heads, table[a], a as u16);
+    // Makes a compound term the head of its class, unless a lower one is.
+    fn note_head(&mut self, class: u16, term: u16)
+        requires { class < length self.old.heads.items }
+        ensures heads { self.new.heads.items ≡ noted self.old.heads.items class term }
+        ensures table { self.new.table.items ≡ self.old.table.items }
+    {
+        if self.heads[class as usize] as usize >= self.heads.len() {
+            self.heads[class as usize] = term;
         }
     }
 }
 
-// Brings the two sides of an equation together, in place, or says that no trees allow it.
-fn settle(
-    terms: &[Term],
-    table: &mut [u16],
-    heads: &mut [u16],
-    marks: &mut [Mark],
-    lowest: &mut [u16],
-    order: &mut OpenSheet,
+// Makes the layer after that of a level for one equation more.
+pub(crate) fn next_layer(
+    layers: &mut [Layer],
+    visits: &mut Visits,
+    terms: Terms,
+    level: usize,
     e: Equation,
-) -> bool
-    requires terms { Terms terms.now }
-    requires tabled { Tabled (rows terms.now) table.old heads.old }
-    requires places { (length marks.old ≡ length terms.now) × (length lowest.old ≡ length terms.now) }
-    requires sheet { Sheet (arities_of order.old) (rows terms.now) }
-    requires sides { (e.left < length terms.now) × (e.right < length terms.now) }
-    ensures arities { arities_of order.new ≡ arities_of order.old }
-    ensures yes { result ≡ true → (es : List Pair) → Settled (rows terms.now) es table.old heads.old → Settled (rows terms.now) (es ++ (e ∷ [])) table.new heads.new }
-    ensures no { result ≡ false → Refuted (rows terms.now) (class table.old) e.left e.right }
+) -> Result<(), Clash>
+    requires level { level + 1 < length layers.old }
+    requires wide { length (table_at (level + 1) layers.old) ≡ length terms.list.now }
+    requires tabled { Tabled (rows terms.list.now) (table_at level layers.old) (heads_at level layers.old) }
+    requires ready { Ready (rows terms.list.now) visits.old }
+    requires sides { (e.left < length terms.list.now) × (e.right < length terms.list.now) }
+    ensures ready { Ready (rows terms.entry.list.now) visits.new }
+    ensures next { Nexts (rows terms.entry.list.now) level e layers.old layers.new result }
 {
-    if !unify(terms, table, heads, e.left, e.right) {
-        return false;
-    }
-    if !visit_all(terms, table, heads, marks, order) {
-        return false;
-    }
-    lower(table, marks, lowest);
-    find_heads(terms, table, heads);
-    true
-}
-
-// The same, in a workspace. Where it says that no trees allow it, the tables are of no use.
-pub(crate) fn bring(
-    terms: &[Term],
-    table: &mut [u16],
-    heads: &mut [u16],
-    work: &mut Workspace,
-    e: Equation,
-) -> bool
-    requires terms { Terms terms.now }
-    requires tabled { Tabled (rows terms.now) table.old heads.old }
-    requires work { Workable terms.now work.old }
-    requires sides { (e.left < length terms.now) × (e.right < length terms.now) }
-    ensures work { Workable terms.now work.new }
-    ensures yes { result ≡ true → (es : List Pair) → Settled (rows terms.now) es table.old heads.old → Settled (rows terms.now) (es ++ (e ∷ [])) table.new heads.new }
-    ensures no { result ≡ false → Refuted (rows terms.now) (class table.old) e.left e.right }
-{
-    settle(
-        terms,
-        table,
-        heads,
-        &mut work.marks,
-        &mut work.lowest,
-        &mut work.order,
-        e,
-    )
+    let (olds, news) = layers.split_at_mut(level + 1);
+    let old = &olds[level];
+    let next = &mut news[0];
+    next.copy_from(old);
+    next.bring(terms, visits, e)
 }

@@ -1,12 +1,19 @@
 // Letting equations stand, and taking them back.
 
-ghost use Rattle.std.specs.Prelude.{◌≡◌, ◌<◌, ◌≤◌, true, false, [], ◌∷◌, ◌++◌, length, take, IfOk, vec_capacity};
-ghost use Rattle.logic.specs.Theories.{Clash};
+ghost use Rattle.std.specs.Prelude.{◌≡◌, ◌<◌, ◌≤◌, true, OnOk, OnErr, [], ◌∷◌, ◌++◌, length, take, IfOk};
+ghost use Rattle.logic.specs.Theories.{Clash as Clashes};
 ghost use Rattle.sheet.specs.Models.{rows_of};
+ghost use Rattle.trees.specs.Terms.{rows};
+ghost use Rattle.trees.specs.Layers.{Ready};
 ghost use Rattle.trees.specs.Models.{Founded, stands_in, theory_in, Prepared};
 
-use crate::history::History;
-use crate::layers::Layers;
+use crate::clash::Clash;
+use crate::history::{History, Standing};
+use crate::layer::Layer;
+use crate::settling::next_layer;
+use crate::term_list::Terms;
+use crate::visits::Visits;
+use bounded::Bounded;
 use logic::{Equation, ROOM};
 use sheet::OpenSheet;
 use std::alloc::{AllocError, Global};
@@ -16,16 +23,17 @@ impl History {
     pub(crate) fn new(heap: Global, sheet: OpenSheet) -> Result<History, AllocError>
         ensures { IfOk result (λ h. (h.sheet ≡ sheet) × (stands_in h ≡ [])) }
     {
-        let standing = Vec::with_capacity(heap, ROOM)?;
-        let layers = Layers::new(heap, &sheet)?;
-        Ok(History::first(sheet, standing, layers))
+        let standing = Bounded::new(heap)?;
+        let layers = layers(heap, Terms::of(&sheet))?;
+        let visits = Visits::new(heap, &sheet)?;
+        Ok(History::first(sheet, standing, layers, visits))
     }
 
     // The same, in memory that is at hand.
-    fn first(sheet: OpenSheet, standing: Vec<Equation>, layers: Layers) -> History
-        requires empty { standing.items ≡ [] }
-        requires room { 256 ≤ vec_capacity standing }
-        requires founded { Founded (rows_of sheet) layers }
+    fn first(sheet: OpenSheet, standing: Standing, layers: Vec<Layer>, visits: Visits) -> History
+        requires empty { standing.vec.items ≡ [] }
+        requires founded { Founded (rows_of sheet) layers.items }
+        requires ready { Ready (rows_of sheet) visits }
         ensures sheet { result.sheet ≡ sheet }
         ensures standing { stands_in result ≡ [] }
     {
@@ -33,35 +41,40 @@ impl History {
             sheet,
             standing,
             layers,
+            visits,
         }
     }
 
     // Lets an equation stand as the newest, unless it clashes.
-    pub(crate) fn assume(&mut self, e: Equation) -> bool
+    pub(crate) fn assume(&mut self, e: Equation) -> Result<(), Clash>
         requires had { (theory_in self.old).has e ≡ true }
         requires few { length (stands_in self.old) < 256 }
         ensures sheet { self.new.sheet ≡ self.old.sheet }
-        ensures yes { result ≡ true → (Clash (theory_in self.old) (stands_in self.old) e → ⊥) × (stands_in self.new ≡ stands_in self.old ++ (e ∷ [])) }
-        ensures no { result ≡ false → Clash (theory_in self.old) (stands_in self.old) e × (stands_in self.new ≡ stands_in self.old) }
+        ensures yes { OnOk result ((Clashes (theory_in self.old) (stands_in self.old) e → ⊥) × (stands_in self.new ≡ stands_in self.old ++ (e ∷ []))) }
+        ensures no { OnErr result (Clashes (theory_in self.old) (stands_in self.old) e × (stands_in self.new ≡ stands_in self.old)) }
     {
-        if !self.prepare(e) {
-            return false;
-        }
+        self.prepare(e)?;
         self.push(e);
-        true
+        Ok(())
     }
 
-    // Makes the layer for one equation more, or says that it clashes.
-    fn prepare(&mut self, e: Equation) -> bool
+    // Makes the layer for one equation more.
+    fn prepare(&mut self, e: Equation) -> Result<(), Clash>
         requires had { (theory_in self.old).has e ≡ true }
         requires few { length (stands_in self.old) < 256 }
         ensures sheet { self.new.sheet ≡ self.old.sheet }
         ensures standing { stands_in self.new ≡ stands_in self.old }
-        ensures fits { result ≡ true → Clash (theory_in self.old) (stands_in self.old) e → ⊥ }
-        ensures prepared { result ≡ true → Prepared self.new e }
-        ensures clash { result ≡ false → Clash (theory_in self.old) (stands_in self.old) e }
+        ensures fits { OnOk result (Clashes (theory_in self.old) (stands_in self.old) e → ⊥) }
+        ensures prepared { OnOk result (Prepared self.new e) }
+        ensures clash { OnErr result (Clashes (theory_in self.old) (stands_in self.old) e) }
     {
-        self.layers.next(self.sheet.terms(), self.standing.len(), e)
+        next_layer(
+            &mut self.layers,
+            &mut self.visits,
+            Terms::of(&self.sheet),
+            self.standing.len(),
+            e,
+        )
     }
 
     // Lets the equation stand that the next layer is made for.
@@ -71,7 +84,7 @@ impl History {
         ensures sheet { self.new.sheet ≡ self.old.sheet }
         ensures newest { stands_in self.new ≡ stands_in self.old ++ (e ∷ []) }
     {
-        self.standing.push_reserved(e);
+        note(&mut self.standing, e);
     }
 
     // Keeps the oldest n equations, or all where fewer stand.
@@ -81,4 +94,23 @@ impl History {
     {
         self.standing.truncate(n);
     }
+}
+
+// Notes an equation as the newest, where there is room for it.
+fn note(standing: &mut Standing, e: Equation)
+    requires { length standing.old.vec.items < 256 }
+    ensures { standing.new.vec.items ≡ standing.old.vec.items ++ (e ∷ []) }
+{
+    standing.push(e).unwrap();
+}
+
+// A layer for each number of standing equations: in each of them every term is in a class of its own.
+fn layers(heap: Global, terms: Terms) -> Result<Vec<Layer>, AllocError>
+    ensures { IfOk result (λ ls. Founded (rows terms.entry.list.now) ls.items) }
+{
+    let mut layers = Vec::with_capacity(heap, ROOM + 1)?;
+    for _ in 0..ROOM + 1 {
+        layers.push_reserved(Layer::apart(heap, terms)?);
+    }
+    Ok(layers)
 }

@@ -1,63 +1,76 @@
-use Rattle.std.proofs.Common.{◌≡◌, ℕ, List, length, vec_items, sym, refl, arith}
+use Rattle.std.proofs.Common.{◌≡◌, ℕ, ◌+◌, ◌<◌, List, [], ◌∷◌, ◌++◌, OnOk, length, take, drop, vec_items, sym, refl, ap, ◌∙◌, subst, arith, take_at}
+use mathlib.Core.HLevel.{hedberg}
+use mathlib.Core.Logic.{∥∥₁_elim}
 use mathlib.Core.Path.{subst₃}
+use native.Mathlib.Decide.{ℕ_discrete}
 use Rattle.terms.specs.Sheets.{Row}
-use Rattle.terms.proofs.Forced.{between}
 use Rattle.unify.specs.Settling.{Tabled}
-use Rattle.trees.specs.Layers.{layer}
-use Rattle.trees.specs.Models.{arities_in, rows_in, stands_in, table_in, heads_in, settled_in}
+use Rattle.trees.specs.Layers.{table_at, heads_at, Layered, Wide, Nexts, SettledAt}
+use Rattle.trees.specs.Models.{rows_in, stands_in, table_in, heads_in, settled_in}
+use Rattle.trees.specs.declared.layer.Layer.{Layer}
 use Rattle.trees.proofs.Tabled.{settled_tabled}
-use Rattle.trees.proofs.Written.{many, terms_read, ready_workable, workable_ready}
-use Rattle.trees.proofs.Preparing.{layers_still, layer_ahead, ahead_fits, refused_clash}
+use Rattle.trees.proofs.Written.{many, ready_terms, ready_sheet}
+use Rattle.trees.proofs.Preparing.{layers_still, wide_still, layer_ahead, ahead_fits, refused_clash}
 use Rattle.trees.proofs.history.History.prepare.Goals as goal
 
-pub next-requires : goal.next-requires
-next-requires c =
+pub next_layer-requires-clause-wide : goal.next_layer-requires-clause-wide
+next_layer-requires-clause-wide c =
     let self = c.args.self.now in
-    let ts = c.terms.result.now in
-    let read = c.terms.ensures in
-    let sides = between (arities_in self) (rows_in self) c.args.e c.requires.had in
-    let last : length (stands_in self) ≡ c.len.result = omega (arith, self.standing.ok.0, c.len.ensures) in
-    record {
-      terms = terms_read self.sheet ts read;
-      level = omega (arith, c.requires.few);
-      long = (omega (arith, self.table_room, many self.sheet ts read), omega (arith, self.head_room, many self.sheet ts read));
-      tabled = subst₃ (λ (n : ℕ) (qs : List Row) (k : ℕ). Tabled qs (layer n k (vec_items self.layers.tables)) (layer n k (vec_items self.layers.heads)))
-          (sym (many self.sheet ts read)) (sym read.rows) last
-          (settled_tabled (rows_in self) (stands_in self) (table_in self) (heads_in self) (settled_in self));
-      work = ready_workable self.sheet ts read self.layers.work self.ready;
-      sides = (omega (arith, sides.0, many self.sheet ts read), omega (arith, sides.1, many self.sheet ts read));
-    }
+    let ls = vec_items self.layers in
+    let wide : length (table_at (c.len.result + 1) ls) ≡ length (rows_in self) =
+    ∥∥₁_elim self.wide (hedberg ℕ_discrete (length (table_at (c.len.result + 1) ls)) (length (rows_in self))) (λ w. w (c.len.result + 1) (omega (arith, c.requires.few, c.len.ensures.count))) in
+    ap (λ (ms : List Layer). length (table_at (c.len.result + 1) ms)) c.deref_mut.ensures.value ∙ wide ∙ sym (many self.sheet c.of.result.list.now c.of.ensures)
+
+pub next_layer-requires-clause-tabled : goal.next_layer-requires-clause-tabled
+next_layer-requires-clause-tabled c =
+    let self = c.args.self.now in
+    subst₃ (λ (ms : List Layer) (rs : List Row) (k : ℕ). Tabled rs (table_at k ms) (heads_at k ms)) (sym c.deref_mut.ensures.value) (sym c.of.ensures.rows)
+    (let last : length (stands_in self) ≡ c.len.result = omega (arith, self.standing.vec.ok.0, c.len.ensures) in last)
+    (settled_tabled (rows_in self) (stands_in self) (table_in self) (heads_in self) (settled_in self))
+
+pub next_layer-requires-clause-ready : goal.next_layer-requires-clause-ready
+next_layer-requires-clause-ready c =
+    let self = c.args.self.now in ready_terms self.sheet c.of.result.list.now c.of.ensures self.visits self.ready
 
 pub invariant_of-self : goal.invariant_of-self
 invariant_of-self c =
     let self = c.args.self.now in
-    let now = c.next.new.self in
-    let ts = c.terms.result.now in
-    let read = c.terms.ensures in
-    let last : c.len.result ≡ length (stands_in self) = omega (arith, self.standing.ok.0, c.len.ensures) in record {
-      room = self.room;
-      few = self.few;
-      table_room = omega (arith, self.table_room, c.next.ensures.long.0);
-      head_room = omega (arith, self.head_room, c.next.ensures.long.1);
-      ready = ∣ workable_ready self.sheet ts read now.work c.next.ensures.work ∣₁;
-      settled = layers_still self.sheet (stands_in self) c.args.e ts read c.len.result last (vec_items self.layers.tables) (vec_items self.layers.heads)
-          (vec_items now.tables) (vec_items now.heads) c.next.result c.next.ensures.next self.settled;
+    let ls = vec_items self.layers in
+    let us = c.next_layer.new.layers in
+    let es = stands_in self in
+    let r = c.next_layer.result in
+    let ts = c.of.result.list.now in
+    let read = c.of.ensures in
+    let last : c.len.result ≡ length es = omega (arith, self.standing.vec.ok.0, c.len.ensures) in
+    let room : length es + 1 < length ls = omega (arith, c.requires.few, self.full, self.layers.ok.0) in
+    let written : us ≡ take self.layers.len (us ++ drop (length us) ls) = sym (take_at us (drop (length us) ls) self.layers.len (c.next_layer.auto.layers ∙ c.deref_mut.ensures.len)) in
+    let next : Nexts (rows_in self) (length es) c.args.e ls us r
+    = subst₃ (λ (rs : List Row) (k : ℕ) (ms : List Layer). Nexts rs k c.args.e ms us r) read.rows last c.deref_mut.ensures.value c.next_layer.ensures.next in
+    record {
+      full = self.full;
+      wide = subst (λ (ms : List Layer). ∥ Wide (rows_in self) ms 257 ∥₁) written (wide_still self.sheet es c.args.e ls us r room next self.settled 257 self.wide);
+      ready = ∣ ready_sheet self.sheet ts read c.next_layer.new.visits c.next_layer.ensures.ready ∣₁;
+      settled = subst (λ (ms : List Layer). ∥ Layered (rows_in self) es ms ∥₁) written (layers_still self.sheet es c.args.e ls us r room next self.settled);
     }
 
 pub returns : goal.returns
 returns c =
     let self = c.args.self.now in
-    let now = c.next.new.self in
-    let ts = c.terms.result.now in
-    let read = c.terms.ensures in
-    let last : c.len.result ≡ length (stands_in self) = omega (arith, self.standing.ok.0, c.len.ensures) in
+    let ls = vec_items self.layers in
+    let us = c.next_layer.new.layers in
+    let es = stands_in self in
+    let r = c.next_layer.result in
+    let ts = c.of.result.list.now in
+    let read = c.of.ensures in
+    let last : c.len.result ≡ length es = omega (arith, self.standing.vec.ok.0, c.len.ensures) in
+    let room : length es + 1 < length ls = omega (arith, c.requires.few, self.full, self.layers.ok.0) in
+    let written : us ≡ take self.layers.len (us ++ drop (length us) ls) = sym (take_at us (drop (length us) ls) self.layers.len (c.next_layer.auto.layers ∙ c.deref_mut.ensures.len)) in
+    let next : Nexts (rows_in self) (length es) c.args.e ls us r
+    = subst₃ (λ (rs : List Row) (k : ℕ) (ms : List Layer). Nexts rs k c.args.e ms us r) read.rows last c.deref_mut.ensures.value c.next_layer.ensures.next in
     record {
       sheet = refl;
       standing = refl;
-      fits = ahead_fits self.sheet (stands_in self) c.args.e ts read c.len.result last (vec_items self.layers.tables) (vec_items self.layers.heads)
-          (vec_items now.tables) (vec_items now.heads) c.next.result c.next.ensures.next self.settled;
-      prepared = layer_ahead self.sheet (stands_in self) c.args.e ts read c.len.result last (vec_items self.layers.tables) (vec_items self.layers.heads)
-          (vec_items now.tables) (vec_items now.heads) c.next.result c.next.ensures.next self.settled;
-      clash = refused_clash self.sheet (stands_in self) c.args.e ts read c.len.result last (vec_items self.layers.tables) (vec_items self.layers.heads)
-          (vec_items now.tables) (vec_items now.heads) c.next.result c.next.ensures.next self.settled c.requires.had;
+      fits = ahead_fits self.sheet es c.args.e ls us r room next self.settled;
+      prepared = subst (λ (ms : List Layer). OnOk r ∥ SettledAt (rows_in self) (es ++ (c.args.e ∷ [])) (length es + 1) ms ∥₁) written (layer_ahead self.sheet es c.args.e ls us r room next self.settled);
+      clash = refused_clash self.sheet es c.args.e ls us r room next self.settled c.requires.had;
     }

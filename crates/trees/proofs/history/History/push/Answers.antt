@@ -1,4 +1,4 @@
-use Rattle.std.proofs.Common.{List, vec_items, sym, subst, arith}
+use Rattle.std.proofs.Common.{List, sym, subst}
 use mathlib.Core.Logic.{∥∥₁_map₂}
 use Rattle.logic.specs.declared.Equation.{Equation}
 use Rattle.trees.specs.Layers.{Layered}
@@ -9,13 +9,10 @@ use Rattle.trees.proofs.history.History.push.Goals as goal
 pub invariant_of-self : goal.invariant_of-self
 invariant_of-self c =
     let self = c.args.self.now in
-    let ts = vec_items self.layers.tables in
-    let hs = vec_items self.layers.heads in record {
-      room = omega (arith, self.room, c.push_reserved.ensures.capacity);
-      few = omega (arith, c.push_reserved.ensures.len, c.requires.few, self.standing.ok.0);
-      table_room = self.table_room;
-      head_room = self.head_room;
+    record {
+      full = self.full;
+      wide = self.wide;
       ready = self.ready;
-      settled = subst (λ (fs : List Equation). ∥ Layered (rows_in self) fs ts hs ∥₁) (sym c.push_reserved.ensures.items)
-          (∥∥₁_map₂ c.requires.prepared self.settled (layers_push (rows_in self) (stands_in self) ts hs c.args.e));
+      settled = subst (λ (fs : List Equation). ∥ Layered (rows_in self) fs self.layers.items ∥₁) (sym c.note.ensures)
+          (∥∥₁_map₂ c.requires.prepared self.settled (layers_push (rows_in self) (stands_in self) self.layers.items c.args.e));
     }

@@ -1,4 +1,4 @@
-use Rattle.std.proofs.Common.{List, vec_items, sym, subst, arith}
+use Rattle.std.proofs.Common.{List, sym, subst}
 use mathlib.Core.Logic.{∥∥₁_map}
 use Rattle.logic.specs.declared.Equation.{Equation}
 use Rattle.trees.specs.Layers.{Layered}
@@ -9,13 +9,10 @@ use Rattle.trees.proofs.history.History.truncate.Goals as goal
 pub invariant_of-self : goal.invariant_of-self
 invariant_of-self c =
     let self = c.args.self.now in
-    let ts = vec_items self.layers.tables in
-    let hs = vec_items self.layers.heads in record {
-      room = omega (arith, self.room, c.truncate.ensures.capacity);
-      few = omega (arith, self.few, c.truncate.ensures.len);
-      table_room = self.table_room;
-      head_room = self.head_room;
+    record {
+      full = self.full;
+      wide = self.wide;
       ready = self.ready;
-      settled = subst (λ (fs : List Equation). ∥ Layered (rows_in self) fs ts hs ∥₁) (sym c.truncate.ensures.items)
-          (∥∥₁_map self.settled (layers_back (rows_in self) (stands_in self) ts hs c.args.n));
+      settled = subst (λ (fs : List Equation). ∥ Layered (rows_in self) fs self.layers.items ∥₁) (sym c.truncate.ensures)
+          (∥∥₁_map self.settled (layers_back (rows_in self) (stands_in self) self.layers.items c.args.n));
     }

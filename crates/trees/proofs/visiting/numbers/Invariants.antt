@@ -1,8 +1,0 @@
-use Rattle.std.proofs.Common.{◌≡◌, ℕ, ◌<◌, length, get_or}
-use Rattle.unify.specs.Settling.{number_of}
-use Rattle.trees.proofs.visiting.numbers.Given as goal
-
-abbrev pub invariant-loop-i : goal.invariant-loop-i
-invariant-loop-i l =
-    (length l.numbers ≡ 8)
-    × ((k : ℕ) → k < l.i → get_or l.numbers k 0 ≡ number_of l.classes l.marks (get_or l.compound.arguments k 0))

@@ -1,9 +1,0 @@
-use Rattle.std.proofs.Common.{◌≡◌}
-use Rattle.sheet.specs.Models.{arities_of, rows_of}
-use Rattle.trees.specs.Places.{Reached}
-use Rattle.trees.proofs.visiting.visit_all.Given as goal
-
-abbrev pub invariant-loop-class : goal.invariant-loop-class
-invariant-loop-class l =
-    Reached l.terms l.classes l.heads l.marks (arities_of l.order) (rows_of l.order) l.class
-    × (arities_of l.order ≡ arities_of l.initial.order)
