@@ -4,10 +4,7 @@ use super::*;
 use std::test::Fail;
 
 fn on(switch: u16) -> Equation {
-    Equation {
-        left: switch,
-        right: 0,
-    }
+    Equation::new(switch, 0)
 }
 
 #[test]

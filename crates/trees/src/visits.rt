@@ -11,7 +11,7 @@ use unify::Mark;
 pub(crate) struct Visits {
     // How far the visit of each class has come.
     pub(crate) marks: Vec<Mark>,
-    // The lowest term of each number.
+    // The lowest term of each number; the count of terms stands for none, as among the heads of a layer.
     pub(crate) lowest: Vec<u16>,
     // The classes in the order of their visits, as the terms of a sheet over the same symbols.
     pub(crate) order: OpenSheet,

@@ -7,8 +7,8 @@ use Rattle.pair.specs.Members.{by_side}
 use Rattle.pair.proofs.PairLogic.assume.Goals as goal
 
 -- the side does not refuse what it has, where there is room
-pub returns-in_err-assumed : goal.returns-in_err-assumed
-returns-in_err-assumed g c =
+pub returns-in_err-assumed-clause-assumes : goal.returns-in_err-assumed-clause-assumes
+returns-in_err-assumed-clause-assumes g c =
     let a = g.A.Logic in
     let b = g.B.Logic in
     let s = c.args.self.now in
@@ -19,7 +19,7 @@ returns-in_err-assumed g c =
     (each_side _ (g.met.A.Logic.freest s.both.first) (g.met.B.Logic.freest s.both.second)) c.args.e c.in-Some.side c.in-Some.halved c.in-Some.ensures
     (by_side a.theory b.theory z) (by_side a.telling b.telling s.both) (by_side a.telling b.telling z) (by_side a.lawful b.lawful z) (by_side a.stands b.stands z)
     c.if-not-has.ensures less (outcome_of (Err refusal)) c.in_err-assumed.ensures (refusal_number refusal) refl (outcome_of c.from_residual.result) in
-    record { keeps = λ l. (answer l).0; assumes = λ l. (answer l).1 }
+    λ l. (answer l).1
 
 pub returns-in-Taken : goal.returns-in-Taken
 returns-in-Taken g c =
@@ -35,8 +35,8 @@ returns-in-Taken g c =
     (ap (λ x. outcome_of (Ok x)) {x = c.in_ok-assumed.assumed} c.in-Taken.is) (vec_items c.note.new.standing.vec) c.note.ensures in
     record { keeps = λ l. (answer l).0; assumes = λ l. (answer l).1 }
 
-pub returns-in_default-assumed : goal.returns-in_default-assumed
-returns-in_default-assumed g c =
+pub returns-in_default-assumed-clause-assumes : goal.returns-in_default-assumed-clause-assumes
+returns-in_default-assumed-clause-assumes g c =
     let a = g.A.Logic in
     let b = g.B.Logic in
     let s = c.args.self.now in
@@ -47,4 +47,4 @@ returns-in_default-assumed g c =
     (by_side a.theory b.theory z) (by_side a.telling b.telling s.both) (by_side a.telling b.telling z) (by_side a.lawful b.lawful z) (by_side a.stands b.stands z)
     c.if-not-has.ensures less (outcome_of (Ok c.in_ok-assumed.assumed)) c.in_ok-assumed.ensures
     (ap (λ x. outcome_of (Ok x)) {x = c.in_ok-assumed.assumed} c.in_default-assumed.is) in
-    record { keeps = λ l. (answer l).0; assumes = λ l. (answer l).1 }
+    λ l. (answer l).1
