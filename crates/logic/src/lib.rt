@@ -173,7 +173,7 @@ pub trait Logic {
 pub trait TellingLogic: Logic {
     ghost told: { Self → World };
 
-    // What the told world gives to the number's place: a kind and a number.
+    // What the told world gives to the number's place: a kind and a number, side by side, which is the fixed form of it.
     fn tell(&self, number: u16) -> Result<(Kind, u32), Refusal>
         ensures { Self.lawful self.now → (Self.telling self.now).answer (Self.stands self.now) number (answer_of result) };
 

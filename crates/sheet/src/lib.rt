@@ -47,7 +47,7 @@ pub enum Refusal {
 }
 
 impl Refusal {
-    // The number by which a refusal is known to users.
+    // The number by which a refusal is known to users. Each layer has refusals of its own, and gives their numbers itself.
     pub fn number(self) -> u8
         ensures { result ≡ refusal_number self }
     {

@@ -96,7 +96,8 @@ impl Layer {
         self.table[high as usize] = low;
     }
 
-    // Puts each term right under the one that stands for its class.
+    // Puts each term right under the one that stands for its class. (By index: an entry is read at another place than that
+    // where it is written.)
     fn flatten(&mut self)
         requires { Parents (length self.old.table.items) self.old.table.items }
         ensures flat { (f : ℕ → ℕ) → Rooted (length self.old.table.items) self.old.table.items f → (a : ℕ) → a < length self.old.table.items → class self.new.table.items a ≡ f a }

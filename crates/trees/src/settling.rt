@@ -37,7 +37,8 @@ impl Layer {
         Ok(())
     }
 
-    // Puts the lowest term of the same number in the place of each term's class.
+    // Puts the lowest term of the same number in the place of each term's class. (By index: with the entries lent by an
+    // iterator, the proof of the layer's ghost field didn't close.)
     fn lower(&mut self, visits: &mut Visits)
         requires few { vec_len self.old.table ≤ 1024 }
         requires many { vec_len visits.old.marks ≡ vec_len self.old.table }

@@ -8,6 +8,7 @@ use rules::Literal;
 // How many literals a rule may have.
 pub const LITERALS: usize = 16;
 
+// The array has its length beside it: a rule is `Copy` and takes no memory of its own, and the kit's vectors are not both.
 #[derive(Clone, Copy)]
 pub struct Rule {
     literals: [Literal; 16],
