@@ -88,8 +88,8 @@ impl Error for Refusal {}
 impl From<Full> for Refusal {
     ghost from_gives = { λ _ r. r ≡ R.Full };
 
-    fn from(_full: Full) -> Refusal {
-        Refusal::Full
+    fn from(_full: Full) -> Self {
+        Self::Full
     }
 }
 

@@ -1,6 +1,6 @@
 // The calls of a session.
 
-ghost use Rattle.std.specs.Prelude.{◌≡◌, true, false, List, [], IfOk, Decides};
+ghost use Rattle.std.specs.Prelude.{◌≡◌, ◌<◌, true, false, List, [], ◌∷◌, ◌++◌, length, IfOk, Decides, MatchResult};
 ghost use Rattle.logic.specs.Answers.{Keeps, Kept};
 ghost use Rattle.rules.specs.Rules.{Had};
 ghost use Rattle.session.specs.Calls.{Asking, Answer};
@@ -11,7 +11,7 @@ ghost use Rattle.session.specs.Led.{shown_of};
 ghost use Rattle.session.specs.Tells.{Tells};
 ghost use Rattle.session.specs.LedBy.{LedBy, Continues};
 
-use crate::{Refusal, Session};
+use crate::{Refusal, Rules, Session};
 use bounded::Bounded;
 use logic::{Kind, Logic, ROOM, TellingLogic};
 use rules::Literal;
@@ -23,6 +23,13 @@ fn has_all<L: Logic>(logic: &L, rule: &[Literal]) -> bool
     ensures { L.Logic.lawful logic.now → Decides result (Had (L.Logic.theory logic.now) rule.now) }
 {
     rule.iter().all(|literal| logic.has(literal.equation()))
+}
+
+// Adds a rule at the end, unless there is no room for it; then nothing changes.
+fn add(rules: &mut Rules, rule: Rule) -> Result<(), Refusal>
+    ensures { MatchResult result (λ _. (length rules.old.vec.items < 256) × (rules.new.vec.items ≡ rules.old.vec.items ++ (rule ∷ []))) (λ e. (length rules.old.vec.items ≡ 256) × (refusal_number e ≡ 31) × (rules.new.vec.items ≡ rules.old.vec.items)) }
+{
+    rules.push(rule).map_err(|_| Refusal::ManyRules)
 }
 
 impl<L: Logic + Drop> Session<L> {
@@ -69,7 +76,7 @@ impl<L: Logic + Drop> Session<L> {
         if !has_all(&self.logic, literals) {
             return Err(Refusal::Foreign);
         }
-        self.rules.push(rule).map_err(|_| Refusal::ManyRules)?;
+        add(&mut self.rules, rule)?;
         self.put_away();
         Ok(())
     }

@@ -64,12 +64,15 @@ pub enum Reply {
     Chosen(u16, u16),
 }
 
+// The standing rules.
+pub(crate) type Rules = Bounded<Rule, RULES>;
+
 // A session has taken its logic over for good.
 #[derive(Drop)]
 pub struct Session<L> {
     logic: L,
     // The standing rules, oldest first.
-    rules: Bounded<Rule, RULES>,
+    rules: Rules,
     // For each open scope how many rules stood when it was opened.
     scopes: Bounded<usize, SCOPES>,
     // What stands in the logic: the choices of the shown answer, and else nothing. An `Option` would lose their memory, which

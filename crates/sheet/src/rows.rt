@@ -45,7 +45,7 @@ impl Compound {
         &self.arguments[..self.arity as usize]
     }
 
-    // Whether it is the symbol over these arguments.
+    // Whether it is the symbol over these arguments. (It is compared with its parts, so no derived equality serves.)
     pub(crate) fn is(&self, symbol: u8, arguments: &[u16]) -> bool
         ensures { Decides result (Row.over self.now.symbol (take self.now.arity self.now.arguments) ≡ Row.over symbol arguments.now) }
     {

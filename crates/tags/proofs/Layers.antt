@@ -1,5 +1,6 @@
 -- The partitions of the standing equations, as equations are taken and taken back. Assumes nothing.
 use Rattle.std.proofs.Common.{◌≡◌, ℕ, ◌+◌, ◌<◌, ◌≤◌, List, [], ◌∷◌, ◌++◌, length, get_or, take, sym, ap, subst, subst₂, ◌∙◌, arith, length-take}
+use Rattle.std.proofs.Math.Logic.{∥∥₁_map}
 use Rattle.std.specs.List.{take-map}
 use Rattle.std.proofs.lemmas.List.{get_or-map, get_or-take, length-map, length_push, map_push, take-append-le, take-take, take_all}
 use Rattle.logic.specs.declared.Equation.{Equation}
@@ -24,22 +25,28 @@ layers_first es ps p none one x =
     subst₂ (λ (fs : List Equation) (qs : List Partition). Layers fs qs) (sym none) (sym one)
     (λ k h. let first : k ≡ 0 = omega arith in subst (λ (j : ℕ). Exact (take j []) (get_or (p.lowest ∷ []) j [])) (sym first) x)
 
--- with one equation more, and the partition that joins the groups of its two sides
-pub layers_push : (es : List Equation) (ps : List Partition) (e : Equation) (ls : List ℕ) (p : Partition) → length ps ≡ length es + 1
-    → length ls ≡ 1024 → ls ≡ newest es ps → p.lowest ≡ joining ls e.left e.right → e.left < 1024 → e.right < 1024
-    → Layers es ps → Layers (es ++ (e ∷ [])) (ps ++ (p ∷ []))
-layers_push es ps e ls p long wide read joined left right layers k h =
+-- with one equation more, and its partition
+pub layers_push : (es : List Equation) (ps : List Partition) (e : Equation) (p : Partition) → length ps ≡ length es + 1
+    → Exact (es ++ (e ∷ [])) p.lowest → Layers es ps → Layers (es ++ (e ∷ [])) (ps ++ (p ∷ []))
+layers_push es ps e p long exact layers k h =
     let fs = es ++ (e ∷ []) in
     let ts = tables ps in
     let many : length ts ≡ length es + 1 = length-map ps (λ q. q.lowest) ∙ long in
     let older : (j : ℕ) → j < length ts → Exact (take j fs) (get_or ts j [])
     = λ j less. subst (λ (gs : List Equation). Exact gs (get_or ts j [])) (sym (take-append-le j es (e ∷ []) (omega arith))) (layers j (omega arith)) in
-    let now : Exact es ls = subst (λ (x : List ℕ). Exact es x) (sym read) (newest_exact es ps layers) in
     let newest : Exact (take (length ts) fs) p.lowest
-    = subst₂ (λ (gs : List Equation) (x : List ℕ). Exact gs x) (sym (take_all (length ts) fs (omega (arith, length_push es e)))) (sym joined)
-    (exact_joined es ls e wide left right now) in
+    = subst (λ (gs : List Equation). Exact gs p.lowest) (sym (take_all (length ts) fs (omega (arith, length_push es e)))) exact in
     subst (λ (us : List (List ℕ)). Exact (take k fs) (get_or us k [])) (sym (map_push (λ q. q.lowest) ps p))
     (each_push (λ j x. Exact (take j fs) x) ts p.lowest [] older newest k (omega (arith, length_push es e, length_push ts p.lowest)))
+
+-- the partition that joins both sides of the equation is the one to go with it
+pub layers_taken : (es : List Equation) (ps : List Partition) (e : Equation) (ls : List ℕ) (p : Partition) → length ps ≡ length es + 1
+    → length ls ≡ 1024 → ls ≡ newest es ps → p.lowest ≡ joining ls e.left e.right → e.left < 1024 → e.right < 1024
+    → ∥ Layers es ps ∥₁ → ∥ Layers (es ++ (e ∷ [])) (ps ++ (p ∷ [])) ∥₁
+layers_taken es ps e ls p long wide read joined left right layers =
+    let here : Exact es ls = subst (λ (x : List ℕ). Exact es x) (sym read) (newest_exact es ps layers) in
+    ∥∥₁_map layers
+    (layers_push es ps e p long (subst (λ (x : List ℕ). Exact (es ++ (e ∷ [])) x) (sym joined) (exact_joined es ls e wide left right here)))
 
 -- with the oldest n equations
 pub layers_back : (es : List Equation) (ps : List Partition) (n m : ℕ) → m ≡ length (take n es) + 1 → Layers es ps → Layers (take n es) (take m ps)

@@ -23,14 +23,14 @@ history_layers h = layers_plain (vec_items h.standing.vec) (vec_items h.partitio
 -- the newest has the lowest members of the groups of forced-equal tags
 pub history_table : (h : History) → Table 1024 (ForcedEqual (vec_items h.standing.vec)) (newest (vec_items h.standing.vec) (vec_items h.partitions))
 history_table h =
-    newest_table (vec_items h.standing.vec) (vec_items h.partitions) (omega (arith, h.one_more, h.standing.vec.ok.0, h.partitions.ok.0)) (history_layers h)
+    newest_table (vec_items h.standing.vec) (vec_items h.partitions) (omega (arith, h.one_more, h.standing.vec.ok.0, h.partitions.ok.0)) h.layers
 
 -- so the told world is a freest one, and what is told names its trees
 pub history_freest : (h : History) → FreestAt tags (vec_items h.standing.vec) (told_in h)
 history_freest h =
     let es = vec_items h.standing.vec in
     let ps = vec_items h.partitions in
-    tag_freest es (newest es ps) (history_table h) (newest_exact es ps (history_layers h))
+    tag_freest es (newest es ps) (history_table h) ∣ newest_exact es ps h.layers ∣₁
 
 pub history_named : (h : History) (n : ℕ) (a : Told) → TagTold (vec_items h.standing.vec) n a → Names tag_telling (told_in h) a ((told_in h).tree n)
 history_named h = tag_named (vec_items h.standing.vec) (newest (vec_items h.standing.vec) (vec_items h.partitions)) (history_table h)

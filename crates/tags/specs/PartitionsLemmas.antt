@@ -31,8 +31,9 @@ module _ (es : List Equation) (ls : List ℕ) where
       all_each tags (towers (λ n. height (slice_index ls n))) es (agree 0 0) (λ k h. ap (λ v. tower (height v)) (x.joins k h))
 
   -- tags with one entry are forced equal and no others are, so the table has the lowest members of their groups
-  pub exact_table : Lowests ls → Exact es ls → Table 1024 (ForcedEqual es) ls
-  exact_table lowests x =
+  pub exact_table : Lowests ls → ∥ Exact es ls ∥₁ → Table 1024 (ForcedEqual es) ls
+  exact_table lowests exact =
+      let x = exact_plain exact in
       record {
         low = λ i h. (lowests i h).0;
         own = λ i h. (lowests i h).1;

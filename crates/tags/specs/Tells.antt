@@ -15,7 +15,7 @@ use Rattle.groups.proofs.Numbers.{group_single}
 use Rattle.groups.proofs.Tables.{group_numbered, group_agrees}
 use Rattle.tags.specs.Tags.{tags, agree, Tag, ForcedEqual, TagTold, tag_telling}
 use Rattle.tags.specs.Partitions.{Exact, told_by}
-use Rattle.tags.specs.PartitionsLemmas.{heights_true}
+use Rattle.tags.specs.PartitionsLemmas.{exact_plain, heights_true}
 
 -- an equation of tags is between two of them
 pub between : (e : Equation) → tags.has e ≡ true → (e.left < 1024) × (e.right < 1024)
@@ -55,11 +55,11 @@ module _ (es : List Equation) (ls : List ℕ) (table : Table 1024 (ForcedEqual e
   tag_named n (told (suc k) i) x = absurd (omega (arith, x.1))
   tag_named n (refused r) x = tt
 
-  pub tag_freest : Exact es ls → FreestAt tags es (told_by ls)
+  pub tag_freest : ∥ Exact es ls ∥₁ → FreestAt tags es (told_by ls)
   tag_freest exact =
       record {
         own = tt;
-        all = heights_true es ls (λ v. suc (tally (leads ls) v)) exact;
+        all = heights_true es ls (λ v. suc (tally (leads ls) v)) (exact_plain es ls exact);
         free = λ e had true_here.
             let s = between e had in
             (table.agree e.left e.right s.0 s.1).1

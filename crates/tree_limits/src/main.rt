@@ -93,7 +93,12 @@ fn terms(rt: &HostRuntime) -> anyhow::Result<()> {
         "term",
         sheet.term(STEP, &[0]),
     )?;
-    let mut trees = Trees::new(rt.alloc(), sheet)?;
+    bound(rt, Trees::new(rt.alloc(), sheet)?)?;
+    Ok(())
+}
+
+// The name and the top of the tower, apart and brought together.
+fn bound(rt: &HostRuntime, mut trees: Trees) -> io::Result<()> {
     print_told(rt, "the free name", &trees, 1023)?;
     print_assumed(
         rt,
@@ -114,8 +119,7 @@ fn terms(rt: &HostRuntime) -> anyhow::Result<()> {
         "the top and the term below it",
         &mut trees,
         Equation::new(1022, 1021),
-    )?;
-    Ok(())
+    )
 }
 
 // 256 and 257 standing equations, in trees and in a pair, which counts both sides together.

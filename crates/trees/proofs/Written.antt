@@ -1,4 +1,4 @@
--- The terms that are read of a sheet, and the workspace for them. Assumes nothing.
+-- The terms that are read of a sheet, and the visits of them. Assumes nothing.
 use Rattle.std.proofs.Common.{◌≡◌, ◌≤◌, List, length, vec_len, sym, ap, ◌∙◌, subst, arith}
 use mathlib.Core.HLevel.{hedberg}
 use mathlib.Core.Logic.{∥∥₁_elim, ∥∥₁_map}
@@ -27,7 +27,7 @@ module _ (s : OpenSheet) (ts : List Term) (read : Read s ts) where
       let sheet : Sheet (arities_of s) (rows ts) = subst (λ (rs : List Row). Sheet (arities_of s) rs) (sym read.rows) read.sheet in
       record { few = few; many = length-map ts shape; lower = λ a i h l. arguments_lower (arities_of s) (rows ts) sheet a i (omega (arith, length-map ts shape)) l }
 
-  -- a workspace that is ready for the sheet is ready for its terms
+  -- visits that are ready for the sheet are ready for its terms
   pub ready_terms : (v : Visits) → ∥ Ready (rows_of s) v ∥₁ → Ready (rows ts) v
   ready_terms v ready =
       subst (λ (rs : List Row). Ready rs v) (sym read.rows)

@@ -26,23 +26,12 @@ impl History {
         let standing = Bounded::new(heap)?;
         let layers = layers(heap, Terms::of(&sheet))?;
         let visits = Visits::new(heap, &sheet)?;
-        Ok(History::first(sheet, standing, layers, visits))
-    }
-
-    // The same, in memory that is at hand.
-    fn first(sheet: OpenSheet, standing: Standing, layers: Vec<Layer>, visits: Visits) -> History
-        requires empty { standing.vec.items ≡ [] }
-        requires founded { Founded (rows_of sheet) layers.items }
-        requires ready { Ready (rows_of sheet) visits }
-        ensures sheet { result.sheet ≡ sheet }
-        ensures standing { stands_in result ≡ [] }
-    {
-        History {
+        Ok(History {
             sheet,
             standing,
             layers,
             visits,
-        }
+        })
     }
 
     // Lets an equation stand as the newest, unless it clashes.

@@ -93,7 +93,8 @@ impl Visits {
         self.visit_arguments(terms, layer, head, place + 1)
     }
 
-    // Gives a class that has only names a name's number.
+    // Gives a class that has only names a name's number. (Apart from `write_over`: the two
+    // ask different things of the order.)
     fn write_name(&mut self, class: u16)
         requires class { class < vec_len self.old.marks }
         requires room { length (rows_of self.old.order) < 1024 }

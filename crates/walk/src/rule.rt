@@ -1,14 +1,13 @@
-// A rule as it is kept: up to 16 literals, in memory of its own.
+// A rule as it is kept: up to 16 literals, in places of its own.
 
 ghost use Rattle.std.specs.Prelude.{◌≡◌, ◌<◌, ◌≤◌, length, take, MatchOption};
 
-use logic::Equation;
 use rules::Literal;
 
 // How many literals a rule may have.
 pub const LITERALS: usize = 16;
 
-// The array has its length beside it: a rule is `Copy` and takes no memory of its own, and the kit's vectors are not both.
+// The array has its length beside it: a rule is `Copy` and lies in the value itself, and the kit's vectors are not both.
 #[derive(Clone, Copy)]
 pub struct Rule {
     literals: [Literal; 16],

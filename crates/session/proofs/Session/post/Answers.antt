@@ -36,14 +36,14 @@ returns-then-not-has_all g c =
           (short_rule c.in-Some.rule c.args.literals.now c.in-Some.ensures) (λ had. false≢true ((c.if-not-has_all.ensures l.lawful).1 had)),
     )
 
-pub returns-in_err-map_err : goal.returns-in_err-map_err
-returns-in_err-map_err g c =
+pub returns-in_err-add : goal.returns-in_err-add
+returns-in_err-add g c =
     let m = g.L.Logic in
     let s = c.args.self.now in
     let x = c.args.literals.now in
     let many : length (vec_items s.rules.vec) ≡ 256 = search (rules, tests) in
     let full : length (written (vec_items s.rules.vec)) ≡ 256 = length-map (vec_items s.rules.vec) literals_of ∙ many in
-    let left : vec_items c.push.new.self.vec ≡ vec_items s.rules.vec = search (rules, tests) in
+    let left : vec_items c.add.new.rules.vec ≡ vec_items s.rules.vec = search (rules, tests) in
     let answered : granted_or c.from_residual.result ≡ refused 31 = search (rules, tests) in
     λ cs rs l. (
       kept_refl (m.theory s.logic) (m.telling s.logic) (m.lawful s.logic) l.lawful,
@@ -58,7 +58,7 @@ returns g c =
     let z = c.put_away.new.self in
     let x = c.args.literals.now in
     let R = written (vec_items s.rules.vec) in
-    let push : (length (vec_items s.rules.vec) < 256) × (vec_items c.push.new.self.vec ≡ vec_items s.rules.vec ++ (c.in-Some.rule ∷ [])) = search (rules, tests) in
+    let push : (length (vec_items s.rules.vec) < 256) × (vec_items c.add.new.rules.vec ≡ vec_items s.rules.vec ++ (c.in-Some.rule ∷ [])) = search (rules, tests) in
     let less : length R < 256 = omega (arith, length-map (vec_items s.rules.vec) literals_of, push.0) in
     let pushed : written (vec_items z.rules.vec) ≡ R ++ (x ∷ []) =
     written_push (vec_items s.rules.vec) (vec_items z.rules.vec) c.in-Some.rule x (ap (λ v. vec_items v.vec) c.put_away.ensures.rules ∙ push.1) c.in-Some.ensures in

@@ -4,7 +4,7 @@ use Rattle.tags.specs.Layers.{Layers}
 use Rattle.tags.specs.Tells.{between}
 use Rattle.tags.specs.Histories.{history_layers}
 use Rattle.tags.specs.declared.partition.Partition.{Partition}
-use Rattle.tags.proofs.Layers.{layers_push}
+use Rattle.tags.proofs.Layers.{layers_taken}
 use Rattle.tags.proofs.history.History.push.Goals as goal
 
 pub invariant_of-self : goal.invariant_of-self
@@ -24,6 +24,6 @@ invariant_of-self-2-clause-layers c =
     let ps = vec_items self.partitions in
     let s = between c.args.e c.requires in
     let long : length ps ≡ length es + 1 = omega (arith, self.one_more, self.standing.vec.ok.0, self.partitions.ok.0) in
-    ∣ subst₂ (λ (fs : List Equation) (qs : List Partition). Layers fs qs) (sym c.in_ok-push.ensures.1) (sym c.push_reserved.ensures.items)
-    (layers_push es ps c.args.e c.groups.result.now.lowest c.joined-joined.result long c.groups.result.now.long c.groups.ensures.newest
-    c.joined-joined.ensures s.0 s.1 (history_layers self)) ∣₁
+    subst₂ (λ (fs : List Equation) (qs : List Partition). ∥ Layers fs qs ∥₁) (sym c.in_ok-push.ensures.1) (sym c.push_reserved.ensures.items)
+    (layers_taken es ps c.args.e c.groups.result.now.lowest c.joined-joined.result long c.groups.result.now.long c.groups.ensures.newest
+    c.joined-joined.ensures s.0 s.1 self.layers)
