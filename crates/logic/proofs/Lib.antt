@@ -2,3 +2,4 @@ pub mod Towers
 pub mod Sames
 pub mod Trues
 pub mod Lists
+pub mod Counts

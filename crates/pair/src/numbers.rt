@@ -47,7 +47,8 @@ fn belongs(side: Side, e: Equation) -> bool
 pub(crate) fn count(side: Side, es: &[Equation]) -> usize
     ensures { result ≡ length (share side es.now) }
 {
-    es.iter().filter(|e| belongs(side, **e)).count()
+    let more = |count: usize, e: &Equation| count.wrapping_add(usize::from(belongs(side, *e)));
+    es.iter().fold(0, more)
 }
 
 // The number of a side, among the numbers of both.

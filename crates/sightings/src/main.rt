@@ -7,6 +7,7 @@
 use logic::{Assumed, Equation, Logic, Refusal, TellingLogic};
 use std::collections::BTreeSet;
 use std::io;
+use std::ops::Bound;
 use switches::Switches;
 use tags::Tags;
 
@@ -83,7 +84,7 @@ fn read_log(rt: &HostRuntime, bench: &mut Bench) -> anyhow::Result<()> {
 // Each pair of the numbers that is forced equal.
 fn print_forced<L: Logic>(rt: &HostRuntime, logic: &L, numbers: &BTreeSet<u16>) -> io::Result<()> {
     for left in numbers.iter() {
-        for right in numbers.iter().filter(|right| left < *right) {
+        for right in numbers.range((Bound::Excluded(*left), Bound::Unbounded)) {
             if logic.forced(Equation::new(*left, *right)) {
                 println!(rt; "forced {left} = {right}")?;
             }

@@ -74,6 +74,9 @@ impl History {
         requires { tags.has e ≡ true }
         ensures { Pushes 256 self.old.standing.vec.items e result self.new.standing.vec.items }
     {
+        if self.standing.is_full() {
+            return Err(Full);
+        }
         let joined = self.groups().joined(e.left, e.right);
         self.standing.push(e)?;
         self.partitions.push_reserved(joined);

@@ -65,7 +65,9 @@ impl Partition {
         ensures count { result ≡ tally (leads self.now.lowest) end }
         ensures within { result ≤ end }
     {
-        let leads = |tag: &u16| self.lowest[*tag as usize] == *tag;
-        (0..end).filter(leads).count() as u32
+        let more = |count: u32, tag: u16| {
+            count.wrapping_add(u32::from(self.lowest[tag as usize] == tag))
+        };
+        (0..end).fold(0, more)
     }
 }

@@ -34,6 +34,16 @@ impl Layer {
         Ok(Layer { table, heads })
     }
 
+    // Another layer with the same classes.
+    pub(crate) fn copied(&self, heap: Global) -> Result<Layer, AllocError>
+        ensures table { IfOk result (λ l. l.table.items ≡ self.now.table.items) }
+        ensures heads { IfOk result (λ l. l.heads.items ≡ self.now.heads.items) }
+    {
+        let table = Vec::from_slice(heap, &self.table)?;
+        let heads = Vec::from_slice(heap, &self.heads)?;
+        Ok(Layer { table, heads })
+    }
+
     // Becomes a copy of a layer of as many terms.
     pub(crate) fn copy_from(&mut self, other: &Layer)
         requires { vec_len self.old.table ≡ vec_len other.now.table }

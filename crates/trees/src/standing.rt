@@ -98,8 +98,10 @@ fn layers(heap: Global, terms: Terms) -> Result<Vec<Layer>, AllocError>
     ensures { IfOk result (λ ls. Founded (rows terms.entry.list.now) ls.items) }
 {
     let mut layers = Vec::with_capacity(heap, ROOM + 1)?;
-    for _ in 0..ROOM + 1 {
-        layers.push_reserved(Layer::apart(heap, terms)?);
+    let apart = Layer::apart(heap, terms)?;
+    for _ in 0..ROOM {
+        layers.push_reserved(apart.copied(heap)?);
     }
+    layers.push_reserved(apart);
     Ok(layers)
 }

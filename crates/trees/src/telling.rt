@@ -43,14 +43,20 @@ impl Layer {
         ensures value { result ≡ count_by (leads_names self.now.table.items self.now.heads.items) (range_with_len 0 lead) }
         ensures within { result ≤ lead }
     {
-        (0..lead).filter(|other| self.leads_names(*other)).count()
+        let more = |count: usize, other: u16| {
+            count.wrapping_add(usize::from(self.leads_names(other)))
+        };
+        (0..lead).fold(0, more)
     }
 
-    // Whether a term is the lowest of a class that has only names.
+    // Whether a term is the lowest of a class that has only names. (Both tests are made, with no branch between them, so that
+    // counting goes over several terms at once.)
     fn leads_names(&self, term: u16) -> bool
         requires { term < vec_len self.now.table }
         ensures { result ≡ leads_names self.now.table.items self.now.heads.items term }
     {
-        self.table[term as usize] == term && self.heads[term as usize] as usize >= self.table.len()
+        let is_lowest = self.table[term as usize] == term;
+        let has_no_head = self.heads[term as usize] as usize >= self.table.len();
+        is_lowest & has_no_head
     }
 }

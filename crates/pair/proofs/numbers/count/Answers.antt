@@ -1,7 +1,9 @@
-use Rattle.std.proofs.Common.{◌≡◌, length, ◌∙◌, rules, tests}
-use Rattle.std.specs.List.{filter}
+use Rattle.std.proofs.Common.{sym, ◌∙◌, arith, rules, tests}
+use Rattle.std.proofs.iter.Yields.{fronts}
+use Rattle.std.proofs.lemmas.List.Sums.{length-filter}
 use Rattle.std.proofs.lemmas.Iterator.{YieldsList-from_slice}
-use Rattle.std.proofs.lemmas.Iterator.Consumers.{YieldsList-at, YieldsList-from_filter, count_from_yields_List}
+use Rattle.logic.specs.declared.Equation.{Equation}
+use Rattle.logic.proofs.Counts.{counted}
 use Rattle.sides.specs.Sides.{part_of, belongs}
 use Rattle.sides.proofs.Shares.{share_filtered}
 use Rattle.pair.proofs.numbers.count.Goals as goal
@@ -9,8 +11,7 @@ use Rattle.pair.proofs.numbers.count.Goals as goal
 pub returns : goal.returns
 returns c =
     let es = c.args.es.now in
-    let s = c.args.side in
-    let counted : c.count.result ≡ length (filter (λ e. belongs s (part_of e)) es)
-    = count_from_yields_List c.filter.result c.count.result c.count.ensures.ran
-    (YieldsList-from_filter _ (λ e. belongs s (part_of e)) (YieldsList-at c.filter.ensures.source (YieldsList-from_slice es cc)) c.filter.ensures.closure (λ x r q k. search (rules, tests))) in
-    counted ∙ share_filtered s es
+    let test = λ (e : Equation). belongs c.args.side (part_of e) in
+    counted fronts (λ y. y.now) _ test 18446744073709551616 _ (λ a x b f called. (search (rules, tests), search rules)) c.iter.result es c.fold.result
+    (YieldsList-from_slice es cc).runs (omega (arith, c.iter.ensures.bound)) c.fold.type_inv c.fold.ensures.ran
+    ∙ sym (length-filter test es) ∙ share_filtered c.args.side es
