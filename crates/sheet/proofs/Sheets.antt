@@ -1,10 +1,10 @@
 -- Sheets as symbols and rows are added. Assumes nothing.
-use Rattle.std.proofs.Common.{◌≡◌, ℕ, ◌<◌, ◌≤◌, ◌⊎◌, List, [], ◌∷◌, ◌++◌, length, get_or, sym, ap, ◌∙◌, subst, inl, inr, arith}
+use Rattle.std.proofs.Common.{◌≡◌, ℕ, ◌<◌, ◌≤◌, ◌⊎◌, List, [], ◌∷◌, ◌++◌, length, get_or, take, sym, ap, ◌∙◌, subst, inl, inr, arith, length-take}
 use mathlib.Core.HLevel.{hedberg}
 use mathlib.Core.Logic.{∥∥₁_elim}
 use native.Mathlib.Bridge.{le_prop}
 use native.Mathlib.Decide.{ℕ_discrete}
-use Rattle.std.proofs.lemmas.List.{get_or_append_left, get_or_push, length_push}
+use Rattle.std.proofs.lemmas.List.{get_or_append_left, get_or_push, get_or-take, length_push}
 use Rattle.terms.specs.Sheets.{Row, row, Symbols, Writable, Sheet}
 use Rattle.sheet.specs.Rows.{Absent, Fresh}
 
@@ -81,6 +81,17 @@ sheet_blank ar rs none symbols =
       few = omega arith;
       rows = λ n s xs h is. absurd (omega arith);
       once = λ m n s xs h k is too. absurd (omega arith);
+    }
+
+-- the oldest k rows
+pub sheet_oldest : (ar : List ℕ) (rs : List Row) (k : ℕ) → Sheet ar rs → Sheet ar (take k rs)
+sheet_oldest ar rs k x =
+    record {
+      symbols = x.symbols;
+      few = omega (arith, length-take k rs, x.few);
+      rows = λ n s xs h is. x.rows n s xs (omega (arith, length-take k rs)) (sym (get_or-take k rs n Row.name (omega (arith, length-take k rs))) ∙ is);
+      once = λ m n s xs h l is too. x.once m n s xs (omega (arith, length-take k rs)) (omega (arith, length-take k rs))
+          (sym (get_or-take k rs m Row.name (omega (arith, length-take k rs))) ∙ is) (sym (get_or-take k rs n Row.name (omega (arith, length-take k rs))) ∙ too);
     }
 
 -- that something is a sheet holds in one way only

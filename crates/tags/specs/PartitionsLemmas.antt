@@ -1,5 +1,5 @@
 -- What a table says of the equations that it is exact for. Assumes nothing.
-use Rattle.std.specs.Prelude.{ℕ, List, slice_index, slice_index_or}
+use Rattle.std.specs.Prelude.{◌≡◌, ℕ, ◌<◌, List, slice_index, slice_index_or}
 use Rattle.std.proofs.Common.{sym, ap, ◌∙◌, arith}
 use mathlib.Core.HLevel.{hedberg}
 use native.Mathlib.Bridge.{le_prop}
@@ -30,15 +30,22 @@ module _ (es : List Equation) (ls : List ℕ) where
   heights_true height x =
       all_each tags (towers (λ n. height (slice_index ls n))) es (agree 0 0) (λ k h. ap (λ v. tower (height v)) (x.joins k h))
 
-  -- tags with one entry are forced equal and no others are, so the table has the lowest members of their groups
+  -- forced-equal tags have one entry
+  forced_entries : Exact es ls → (a b : ℕ) → ForcedEqual es a b → slice_index ls a ≡ slice_index ls b
+  forced_entries x a b f =
+      tower_same (slice_index ls a) (slice_index ls b) (f.1 (towers (λ n. slice_index ls n)) tt (heights_true (λ v. v) x))
+
+  -- and tags with one entry are forced equal
+  entries_forced : ∥ Exact es ls ∥₁ → (a b : ℕ) → a < 1024 → b < 1024 → slice_index ls a ≡ slice_index ls b → ForcedEqual es a b
+  entries_forced exact a b h k same =
+      let x = exact_plain exact in
+      (grind (arith, nat_tests), λ w own all. x.sound w all a h ∙ ap w.tree same ∙ sym (x.sound w all b k))
+
+  -- so the table has the lowest members of the groups of forced-equal tags
   pub exact_table : Lowests ls → ∥ Exact es ls ∥₁ → Table 1024 (ForcedEqual es) ls
   exact_table lowests exact =
-      let x = exact_plain exact in
       record {
         low = λ i h. (lowests i h).0;
         own = λ i h. (lowests i h).1;
-        agree = λ i j h k. (
-          λ f. tower_same (slice_index ls i) (slice_index ls j) (f.1 (towers (λ n. slice_index ls n)) tt (heights_true (λ v. v) x)),
-          λ same. (grind (arith, nat_tests), λ w own all. x.sound w all i h ∙ ap w.tree same ∙ sym (x.sound w all j k)),
-        );
+        agree = λ i j h k. (forced_entries (exact_plain exact) i j, entries_forced exact i j h k);
       }
